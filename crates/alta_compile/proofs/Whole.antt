@@ -2,7 +2,7 @@
 use Rattle.std.proofs.Common.{ℕ, ◌^◌, ◌<◌, ◌≤◌, List, [], ◌∷◌, ◌++◌, length, map, subst, sym, arith, length-append, Option, Some, None}
 use Rattle.std.specs.Prelude.{All, MatchOption}
 use Rattle.std.proofs.lemmas.List.Elements.{All-nil, All-cons, All-head, All-tail, All-push}
-use Rattle.alta_machine.specs.Grammar.{IsUnary, alone, two_sides, behind_not, in_parens, IsAnd, first_unary, beside_and, behind_and, IsOr, first_and, behind_or, Reads}
+use Rattle.alta_machine.specs.Grammar.{IsUnary, alone, two_sides, behind_not, in_parens, IsAnd, first_unary, beside_and, behind_and, IsOr, first_and, behind_or, ReadsQuery}
 use Rattle.alta_machine.specs.Matches.{HasOrderedValues, HaveOrderedValues}
 use Rattle.alta_machine.specs.Patterns.{Pattern, pattern_of, numbers_in}
 use Rattle.alta_machine.specs.Shape.{Shape, Shapes, atom, all, any, negated, none, more, shapes_of, all_of as all_shape, any_of as any_shape}
@@ -117,5 +117,5 @@ mutual
   others_whole (more (any rs) qs) f o = (filled_whole (any rs) f.0 o.0, others_whole qs f.1 o.1)
   others_whole (more (negated r) qs) f o = (filled_whole (negated r) f.0 o.0, others_whole qs f.1 o.1)
 
-pub read_whole : (ts : List Token) (q : Shape) → Reads ts q → HasOrderedValues q → IsWhole (plan_of q)
+pub read_whole : (ts : List Token) (q : Shape) → ReadsQuery ts q → HasOrderedValues q → IsWhole (plan_of q)
 read_whole ts q r o = filled_whole q (subst IsFilled (sym r.is_any) (any_filled r.members (or_filled r.spelled))) o

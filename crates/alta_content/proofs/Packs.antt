@@ -13,7 +13,7 @@ use Rattle.alta_codec.proofs.ByteLaws.{AreBytes-drop, AreBytes-take}
 use Rattle.alta_codec.proofs.Numerals.{number_read, number_size, reads_number}
 use Rattle.alta_content.specs.TermList.{TermList}
 use Rattle.alta_content.specs.Packed as packed
-use Rattle.alta_content.specs.Packed.{Fits, Packs, Row, gap, gaps_bytes, list_gaps, lists_in, locations_in, number_in, row_bytes, row_in}
+use Rattle.alta_content.specs.Packed.{Fits, Packs, Row, gap, gaps_bytes, list_gaps, lists_in, locations_in, leading_number, row_bytes, row_in}
 
 -- a number that is read from a place on ends within the bytes
 pub read_within : (bytes : List ℕ) (at n e : ℕ) → AreBytes bytes → at ≤ length bytes → number_from 9 0 (take (length bytes - at) (drop at bytes)) ≡ Ok (n, e) → at + e ≤ length bytes
@@ -24,7 +24,7 @@ read_within bytes at n e b l h =
 
 -- ---- numbers
 
-pub number_reads : (n : ℕ) (more : List ℕ) → n < 2 ^ 64 → number_in (number_bytes n ++ more) ≡ (n, more)
+pub number_reads : (n : ℕ) (more : List ℕ) → n < 2 ^ 64 → leading_number (number_bytes n ++ more) ≡ (n, more)
 number_reads n more small =
     ap (packed.number_read (number_bytes n ++ more)) (reads_number 0 n more small)
     ∙ ap (λ d. (n, d)) (ap (λ i. drop i (number_bytes n ++ more)) (omega arith) ∙ drop-append_seam (number_bytes n) more)
@@ -47,20 +47,20 @@ gaps_read before [] more b h = refl
 gaps_read before (x ∷ xs) more b h =
     let small : x < 2 ^ 64 = All-head (λ x. x < 2 ^ 64) x xs h in
     let whole : (number_bytes (gap before x) ++ gaps_bytes x xs) ++ more ≡ number_bytes (gap before x) ++ (gaps_bytes x xs ++ more) = append_assoc (number_bytes (gap before x)) (gaps_bytes x xs) more in
-    let read : number_in ((number_bytes (gap before x) ++ gaps_bytes x xs) ++ more) ≡ (gap before x, gaps_bytes x xs ++ more) =
-    ap number_in whole ∙ number_reads (gap before x) (gaps_bytes x xs ++ more) (gap_small before x) in
+    let read : leading_number ((number_bytes (gap before x) ++ gaps_bytes x xs) ++ more) ≡ (gap before x, gaps_bytes x xs ++ more) =
+    ap leading_number whole ∙ number_reads (gap before x) (gaps_bytes x xs ++ more) (gap_small before x) in
     ap (λ (r : ℕ × List ℕ). ((before + r.0) % 2 ^ 64) ∷ locations_in (length xs) ((before + r.0) % 2 ^ 64) r.1) read
     ∙ ap (λ (y : ℕ). y ∷ locations_in (length xs) y (gaps_bytes x xs ++ more)) (gap_reads before x b small)
     ∙ ap (λ ys. x ∷ ys) (gaps_read x xs more small (All-tail (λ x. x < 2 ^ 64) x xs h))
 
 -- one location is read
 pub next_location : (all : List ℕ) (n before : ℕ) (bytes : List ℕ) → 0 < n
-    → all ++ locations_in n before bytes ≡ (all ++ ((before + (number_in bytes).0) % 2 ^ 64) ∷ []) ++ locations_in (n - 1) ((before + (number_in bytes).0) % 2 ^ 64) (number_in bytes).1
+    → all ++ locations_in n before bytes ≡ (all ++ ((before + (leading_number bytes).0) % 2 ^ 64) ∷ []) ++ locations_in (n - 1) ((before + (leading_number bytes).0) % 2 ^ 64) (leading_number bytes).1
 next_location all zero before bytes l = absurd (omega (arith, l))
 next_location all (suc n) before bytes l =
-    let x = (before + (number_in bytes).0) % 2 ^ 64 in
-    sym (append_assoc all (x ∷ []) (locations_in n x (number_in bytes).1))
-    ∙ ap (λ (m : ℕ). (all ++ x ∷ []) ++ locations_in m x (number_in bytes).1) (omega arith)
+    let x = (before + (leading_number bytes).0) % 2 ^ 64 in
+    sym (append_assoc all (x ∷ []) (locations_in n x (leading_number bytes).1))
+    ∙ ap (λ (m : ℕ). (all ++ x ∷ []) ++ locations_in m x (leading_number bytes).1) (omega arith)
 
 -- ---- rows
 
@@ -71,15 +71,15 @@ row_reads l more f =
     let whole : (number_bytes (length l.term) ++ (l.term ++ (n ++ g))) ++ more ≡ number_bytes (length l.term) ++ (l.term ++ (n ++ (g ++ more))) =
     append_assoc (number_bytes (length l.term)) (l.term ++ (n ++ g)) more
     ∙ ap (λ r. number_bytes (length l.term) ++ r) (append_assoc l.term (n ++ g) more ∙ ap (λ r. l.term ++ r) (append_assoc n g more)) in
-    let size : number_in ((number_bytes (length l.term) ++ (l.term ++ (n ++ g))) ++ more) ≡ (length l.term, l.term ++ (n ++ (g ++ more))) =
-    ap number_in whole ∙ number_reads (length l.term) (l.term ++ (n ++ (g ++ more))) f.term in
+    let size : leading_number ((number_bytes (length l.term) ++ (l.term ++ (n ++ g))) ++ more) ≡ (length l.term, l.term ++ (n ++ (g ++ more))) =
+    ap leading_number whole ∙ number_reads (length l.term) (l.term ++ (n ++ (g ++ more))) f.term in
     let behind : drop (length l.term) (l.term ++ (n ++ (g ++ more))) ≡ n ++ (g ++ more) = drop-append_seam l.term (n ++ (g ++ more)) in
-    let count : number_in (drop (length l.term) (l.term ++ (n ++ (g ++ more)))) ≡ (length l.locations, g ++ more) =
-    ap number_in behind ∙ number_reads (length l.locations) (g ++ more) f.count in
-    let gaps : number_in (g ++ more) ≡ (length (list_gaps l), more) = number_reads (length (list_gaps l)) more f.gaps in
+    let count : leading_number (drop (length l.term) (l.term ++ (n ++ (g ++ more)))) ≡ (length l.locations, g ++ more) =
+    ap leading_number behind ∙ number_reads (length l.locations) (g ++ more) f.count in
+    let gaps : leading_number (g ++ more) ≡ (length (list_gaps l), more) = number_reads (length (list_gaps l)) more f.gaps in
     let from : (ℕ × List ℕ) → (ℕ × List ℕ) → (ℕ × List ℕ) → Row = λ s c k. record { term = take s.0 s.1; count = c.0; gaps = k.0; behind = k.1 } in
-    ap (λ (s : ℕ × List ℕ). from s (number_in (drop s.0 s.1)) (number_in (number_in (drop s.0 s.1)).1)) size
-    ∙ ap (λ (c : ℕ × List ℕ). from (length l.term, l.term ++ (n ++ (g ++ more))) c (number_in c.1)) count
+    ap (λ (s : ℕ × List ℕ). from s (leading_number (drop s.0 s.1)) (leading_number (leading_number (drop s.0 s.1)).1)) size
+    ∙ ap (λ (c : ℕ × List ℕ). from (length l.term, l.term ++ (n ++ (g ++ more))) c (leading_number c.1)) count
     ∙ ap (λ (k : ℕ × List ℕ). from (length l.term, l.term ++ (n ++ (g ++ more))) (length l.locations, g ++ more) k) gaps
     ∙ ap (λ t. record { term = t; count = length l.locations; gaps = length (list_gaps l); behind = more }) (take-append_seam l.term (n ++ (g ++ more)))
 

@@ -32,13 +32,13 @@ number_read bytes (Ok r) = (r.0, drop r.1 bytes)
 number_read bytes (Err f) = (0, [])
 
 -- the first number, and what stands behind it
-abbrev pub number_in : List ℕ → ℕ × List ℕ
-number_in bytes = number_read bytes (number_from 9 0 bytes)
+abbrev pub leading_number : List ℕ → ℕ × List ℕ
+leading_number bytes = number_read bytes (number_from 9 0 bytes)
 
 -- so many locations, each behind the one before
 abbrev pub locations_in : ℕ → ℕ → List ℕ → List ℕ
 locations_in zero before bytes = []
-locations_in (suc n) before bytes = ((before + (number_in bytes).0) % 2 ^ 64) ∷ locations_in n ((before + (number_in bytes).0) % 2 ^ 64) (number_in bytes).1
+locations_in (suc n) before bytes = ((before + (leading_number bytes).0) % 2 ^ 64) ∷ locations_in n ((before + (leading_number bytes).0) % 2 ^ 64) (leading_number bytes).1
 
 -- a row: the term, how many locations, how many bytes of gaps, and what stands behind it
 pub record Row : Type 0 where
@@ -50,9 +50,9 @@ pub record Row : Type 0 where
 -- the first row
 abbrev pub row_in : List ℕ → Row
 row_in bytes =
-    let size = number_in bytes in
-    let count = number_in (drop size.0 size.1) in
-    let gaps = number_in count.1 in
+    let size = leading_number bytes in
+    let count = leading_number (drop size.0 size.1) in
+    let gaps = leading_number count.1 in
     record { term = take size.0 size.1; count = count.0; gaps = gaps.0; behind = gaps.1 }
 
 -- so many lists, of these rows and gaps

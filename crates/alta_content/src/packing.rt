@@ -4,7 +4,7 @@
 // read once more for each content that it passes through.
 ghost use Rattle.std.specs.Prelude.{◌≡◌, ◌≤◌, ◌++◌, drop, take, length, is_ok, if◌then◌else◌, OnOk};
 ghost use Rattle.alta_codec.specs.Numbers.{number_bytes};
-ghost use Rattle.alta_content.specs.Packed.{gaps_bytes, locations_in, number_in, row_in};
+ghost use Rattle.alta_content.specs.Packed.{gaps_bytes, locations_in, leading_number, row_in};
 
 use alta_codec::{Loc, get_number, put_number};
 use std::alloc::AllocError;
@@ -23,8 +23,8 @@ pub(crate) struct RowAt {
 // The number at a place, and the place behind it; 0 and the end where no number is spelled.
 fn number_at(bytes: &[u8], at: usize) -> (u64, usize)
     requires { at ≤ length bytes.now }
-    ensures number { result.0 ≡ (number_in (drop at bytes.now)).0 }
-    ensures behind { drop result.1 bytes.now ≡ (number_in (drop at bytes.now)).1 }
+    ensures number { result.0 ≡ (leading_number (drop at bytes.now)).0 }
+    ensures behind { drop result.1 bytes.now ≡ (leading_number (drop at bytes.now)).1 }
     ensures within { result.1 ≤ length bytes.now }
 {
     match get_number(&bytes[at..], 0) {
@@ -37,7 +37,7 @@ fn number_at(bytes: &[u8], at: usize) -> (u64, usize)
 pub(crate) fn term_at(rows: &[u8], at: usize) -> (&[u8], usize)
     requires { at ≤ length rows.now }
     ensures term { result.0.now ≡ (row_in (drop at rows.now)).term }
-    ensures behind { drop result.1 rows.now ≡ drop (number_in (drop at rows.now)).0 (number_in (drop at rows.now)).1 }
+    ensures behind { drop result.1 rows.now ≡ drop (leading_number (drop at rows.now)).0 (leading_number (drop at rows.now)).1 }
     ensures within { result.1 ≤ length rows.now }
 {
     let (size, from) = number_at(rows, at);

@@ -13,7 +13,8 @@ use Rattle.alta_solver.proofs.Raised.{first_from-le_place}
 use Rattle.alta_docread.specs.Kept.{less, common}
 use Rattle.alta_docread.specs.KeptLaws.{common-has}
 use Rattle.alta_docread.specs.Solutions.{IsWalking}
-use Rattle.alta_docread.specs.Tree.{Tree, Trees, found, all_of, any_of, without, none, more, tree_list, lists_of, tree_place, greatest_of, places_of, IsAhead, AreAhead, IsStanding, IsSoundTree, AreSoundTrees, IsUnmoved, AreUnmoved}
+use Rattle.alta_codec.specs.Lists.{greatest_of}
+use Rattle.alta_docread.specs.Tree.{Tree, Trees, found, all_of, any_of, without, none, more, tree_list, lists_of, tree_place, places_of, IsAhead, AreAhead, IsStanding, IsSoundTree, AreSoundTrees, IsUnmoved, AreUnmoved}
 
 -- no solution lies below the first places
 walking_first : (lists : List (List ℕ)) (bounds : List Inequality) (places : List ℕ) (at : ℕ) → at ≡ 0 → places ≡ map (λ l. first_from l 0) lists

@@ -1,6 +1,7 @@
 -- What a tree of document readers is: plain lists and places, and what it means.
 use Rattle.std.specs.Prelude.{◌≡◌, ℕ, ◌+◌, ◌<◌, ◌≤◌, max, List, [], ◌∷◌, ◌++◌, map, length, Contains, All}
 use Rattle.alta_codec.specs.declared.location.TheConstants.{TOP}
+use Rattle.alta_codec.specs.Lists.{greatest_of}
 use Rattle.alta_codec.specs.Rising.{IsRising, IsPlace, first_from}
 use Rattle.alta_compound.specs.Union.{union_of, least_of}
 use Rattle.alta_solver.specs.Solution.{list_at}
@@ -41,11 +42,6 @@ abbrev mutual
   pub lists_of : Trees → List (List ℕ)
   lists_of none = []
   lists_of (more t ts) = tree_list t ∷ lists_of ts
-
--- the greatest of the places, 0 where there is none
-abbrev pub greatest_of : List ℕ → ℕ
-greatest_of [] = 0
-greatest_of (x ∷ xs) = max x (greatest_of xs)
 
 abbrev mutual
   -- where a tree stands: an intersection at the greatest place of its trees, a union at the least

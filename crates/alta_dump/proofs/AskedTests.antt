@@ -7,7 +7,7 @@ use Rattle.std.proofs.lemmas.List.Elements.{All-nil, All-cons, All-head, All-tai
 use Rattle.alta_codec.specs.Decimal.{is_count, value_of}
 use Rattle.alta_codec.specs.Name.{is_name}
 use Rattle.alta_machine.specs.declared.kinds.TheConstants.{WORD, WRITTEN, NAME, TITLE_END}
-use Rattle.alta_machine.specs.Grammar.{IsUnary, alone, two_sides, behind_not, in_parens, IsAnd, first_unary, beside_and, behind_and, IsOr, first_and, behind_or, Reads}
+use Rattle.alta_machine.specs.Grammar.{IsUnary, alone, two_sides, behind_not, in_parens, IsAnd, first_unary, beside_and, behind_and, IsOr, first_and, behind_or, ReadsQuery}
 use Rattle.alta_machine.specs.Patterns.{Pattern, lone_numbers, lone_pattern, phrase_pattern, range_test, titled, title_end, test_of}
 use Rattle.alta_machine.specs.Covers.{cover_of}
 use Rattle.alta_machine.specs.Numbers.{number_in}
@@ -207,6 +207,6 @@ tokens_asked p zero (b ∷ bs) =
     (tokens_asked (p + 1) 0 bs)
     (All-cons IsAskedToken (first_token (b ∷ bs)) (tokens_of (spots_from (p + 1) (first_len (b ∷ bs) - 1) bs)) (first_asked b bs) (tokens_asked (p + 1) (first_len (b ∷ bs) - 1) bs))
 
-pub read_asked : (text : List ℕ) (q : Shape) → Reads (tokens_of (spots text)) q → HasTests IsAsked q
+pub read_asked : (text : List ℕ) (q : Shape) → ReadsQuery (tokens_of (spots text)) q → HasTests IsAsked q
 unfolding spots
 read_asked text q reads = subst (HasTests IsAsked) (sym reads.is_any) (any_of_asked reads.members (or_asked reads.spelled (tokens_asked 0 0 text)))

@@ -9,7 +9,7 @@ ghost use Rattle.alta_machine.specs.declared.document.Document.{Document};
 ghost use Rattle.alta_machine.specs.Command.{adds};
 ghost use Rattle.alta_machine.specs.Lines.{asks, reading_of};
 
-/// A document has a line exactly where one adds it again: the document is plain, and as many cells with the same folded
+/// A document has a line exactly where that line adds it again: the document is plain, and as many cells with the same folded
 /// words, title's end and document's end come of its line, which is short enough and has no tab in its title.
 pub fn a_line_is_decided()
     ensures { (d : Document) (line : List ℕ) → (line_of d ≡ Some line) ↔ IsLineOf d line }

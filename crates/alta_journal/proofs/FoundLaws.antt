@@ -7,7 +7,8 @@ use Rattle.std.proofs.lemmas.List.Elements.{All-weaker}
 use Rattle.alta_codec.specs.Name.{IsGraphic, IsName}
 use Rattle.alta_journal.specs.Entry.{is_old, MayBeRecorded}
 use Rattle.alta_journal.specs.Found.{IsFound, AreFound}
-use Rattle.alta_journal.specs.Reading.{of_eight, cut, texts_in, add_in, replace_in}
+use Rattle.alta_layout.specs.Wide.{of_eight}
+use Rattle.alta_journal.specs.Reading.{cut, texts_in, add_in, replace_in}
 use Rattle.alta_journal.specs.declared.entry.Entry.{Entry}
 use Rattle.alta_journal.specs.declared.entry.Entry.TheVariants.{Add, Replace}
 use Rattle.alta_journal.proofs.ReadingLaws.{bind_is}

@@ -3,12 +3,14 @@ use Rattle.std.proofs.Common.{◌≡◌, ⊎_elim, ℕ, suc, ◌+◌, ◌-◌, �
 use Rattle.std.specs.Prelude.{nat_le}
 use Rattle.std.proofs.lemmas.Bool.{cases_lt, cases_eq, le-leb, lt-leb, eq-eqb, ne_eqb}
 use Rattle.std.proofs.lemmas.List.{take_at, drop_at, append-nil, length-take, length-take-le, get_or-take, get_or-drop, get_or_past, nil_from_length}
-use Rattle.alta_journal.specs.Entry.{four_bytes, eight_bytes, measured, texts_of, payload_of, KeepsRules, IsTyped}
-use Rattle.alta_journal.specs.Reading.{of_four, of_eight, cut, name_in, text_in, texts_in, ◌>>=◌, add_in, delete_in, replace_in, entry_in, entry_of_body}
+use Rattle.alta_layout.specs.Wide.{eight_bytes, of_eight}
+use Rattle.alta_layout.proofs.WideLaws.{eight_long, of_eight-eight, eight-of_eight}
+use Rattle.alta_journal.specs.Entry.{four_bytes, measured, texts_of, payload_of, KeepsRules, IsTyped}
+use Rattle.alta_journal.specs.Reading.{of_four, cut, name_in, text_in, texts_in, ◌>>=◌, add_in, delete_in, replace_in, entry_in, entry_of_body}
 use Rattle.alta_journal.specs.Record.{body_of}
 use Rattle.alta_journal.specs.declared.entry.Entry.{Entry}
 use Rattle.alta_journal.specs.declared.entry.Entry.TheVariants.{Add, Delete, Replace}
-use Rattle.alta_journal.proofs.Spelling.{four_long, eight_long, body_long, of_four-four, of_eight-eight, four-of_four, eight-of_eight}
+use Rattle.alta_journal.proofs.Spelling.{four_long, body_long, of_four-four, four-of_four}
 
 -- ---- what is written is read back
 

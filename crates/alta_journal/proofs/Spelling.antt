@@ -1,9 +1,11 @@
--- How long the parts of a record are, and that four and eight bytes spell their number.
+-- How long the parts of a record are, and that four bytes spell their number.
 use Rattle.std.proofs.Common.{◌≡◌, ℕ, ◌+◌, ◌<◌, ◌^◌, List, [], ◌∷◌, ◌++◌, length, get_or, refl, arith, length-append}
-use Rattle.std.specs.Int.{w32, w64, from_be_bytes}
-use Rattle.std.proofs.lemmas.Nat.{be_bytes_4, be_bytes_8, from_be_bytes-to_be_bytes_4, from_be_bytes-to_be_bytes_8}
-use Rattle.alta_journal.specs.Entry.{four_bytes, eight_bytes, measured, texts_of, payload_of}
-use Rattle.alta_journal.specs.Reading.{of_four, of_eight}
+use Rattle.std.specs.Int.{w32, from_be_bytes}
+use Rattle.std.proofs.lemmas.Nat.{be_bytes_4, from_be_bytes-to_be_bytes_4}
+use Rattle.alta_layout.specs.Wide.{eight_bytes}
+use Rattle.alta_layout.proofs.WideLaws.{eight_long}
+use Rattle.alta_journal.specs.Entry.{four_bytes, measured, texts_of, payload_of}
+use Rattle.alta_journal.specs.Reading.{of_four}
 use Rattle.alta_journal.specs.Record.{record_of, body_of}
 use Rattle.alta_journal.specs.declared.entry.Entry.{Entry}
 use Rattle.alta_journal.specs.declared.entry.Entry.TheVariants.{Add, Delete, Replace}
@@ -11,10 +13,6 @@ use Rattle.alta_journal.specs.declared.entry.Entry.TheVariants.{Add, Delete, Rep
 pub four_long : (n : ℕ) → length (four_bytes n) ≡ 4
 unfolding four_bytes
 four_long n = refl
-
-pub eight_long : (n : ℕ) → length (eight_bytes n) ≡ 8
-unfolding eight_bytes
-eight_long n = refl
 
 pub measured_long : (bytes : List ℕ) → length (measured bytes) ≡ 4 + length bytes
 measured_long bytes = omega (arith, length-append (four_bytes (length bytes)) bytes, four_long (length bytes))
@@ -44,14 +42,6 @@ pub of_four-four : (n : ℕ) → n < 2 ^ 32 → of_four (four_bytes n) ≡ n
 unfolding four_bytes of_four
 of_four-four n small = from_be_bytes-to_be_bytes_4 n small
 
-pub of_eight-eight : (n : ℕ) → n < 2 ^ 64 → of_eight (eight_bytes n) ≡ n
-unfolding eight_bytes of_eight
-of_eight-eight n small = from_be_bytes-to_be_bytes_8 n small
-
 pub four-of_four : (bytes : List ℕ) → length bytes ≡ 4 → ((i : ℕ) → get_or bytes i 0 < 256) → four_bytes (of_four bytes) ≡ bytes
 unfolding four_bytes of_four
 four-of_four bytes four small = be_bytes_4 bytes (from_be_bytes w32 bytes) four small refl
-
-pub eight-of_eight : (bytes : List ℕ) → length bytes ≡ 8 → ((i : ℕ) → get_or bytes i 0 < 256) → eight_bytes (of_eight bytes) ≡ bytes
-unfolding eight_bytes of_eight
-eight-of_eight bytes eight small = be_bytes_8 bytes (from_be_bytes w64 bytes) eight small refl

@@ -3,19 +3,17 @@
 -- root of version 1 asks besides is one test beside the rules (`is_old`), so whether a root has to be raised before an entry is the
 -- rule itself.
 use Rattle.std.specs.Prelude.{◌≡◌, ℕ, ◌+◌, ◌<◌, ◌≤◌, ◌^◌, Bool, true, false, nat_le, List, ◌∷◌, ◌++◌, length, IsUtf8}
-use Rattle.std.specs.Int.{w32, w64, to_be_bytes}
+use Rattle.std.specs.Int.{w32, to_be_bytes}
 pub use Rattle.alta_codec.specs.Bytes.{Lacks}
 use Rattle.alta_codec.specs.Name.{IsName}
+use Rattle.alta_layout.specs.Wide.{eight_bytes}
 use Rattle.alta_journal.specs.declared.entry.Entry.{Entry}
 use Rattle.alta_journal.specs.declared.entry.Entry.TheVariants.{Add, Delete, Replace}
 use Rattle.alta_journal.specs.declared.places.TheConstants.{PAYLOAD_BYTES, TEXTS_BYTES}
 
--- a number in four bytes and in eight, the highest first
+-- a number in four bytes, the highest first
 unfoldable pub four_bytes : ℕ → List ℕ
 four_bytes n = to_be_bytes w32 n
-
-unfoldable pub eight_bytes : ℕ → List ℕ
-eight_bytes n = to_be_bytes w64 n
 
 -- bytes behind their length in four bytes
 abbrev pub measured : List ℕ → List ℕ

@@ -1,15 +1,13 @@
 -- What a payload's bytes say, read field by field.
 use Rattle.std.specs.Prelude.{ℕ, ◌-◌, ◌==◌, List, [], ◌∷◌, length, take, drop, Option, Some, None, nat_le, if◌then◌else◌}
-use Rattle.std.specs.Int.{w32, w64, from_be_bytes}
+use Rattle.std.specs.Int.{w32, from_be_bytes}
+use Rattle.alta_layout.specs.Wide.{of_eight}
 use Rattle.alta_journal.specs.declared.entry.Entry.{Entry}
 use Rattle.alta_journal.specs.declared.entry.Entry.TheVariants.{Add, Delete, Replace}
 
--- the numbers that four bytes and eight bytes spell
+-- the number that four bytes spell
 unfoldable pub of_four : List ℕ → ℕ
 of_four bytes = from_be_bytes w32 bytes
-
-unfoldable pub of_eight : List ℕ → ℕ
-of_eight bytes = from_be_bytes w64 bytes
 
 -- the first n bytes and the others, where there are so many
 unfoldable pub cut : ℕ → List ℕ → Option (List ℕ × List ℕ)

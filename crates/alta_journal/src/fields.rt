@@ -3,7 +3,8 @@ ghost use Rattle.std.specs.Prelude.{◌≡◌, ◌↔◌, ◌+◌, ◌<◌, ◌�
 ghost use Rattle.alta_codec.specs.Name.{IsName};
 ghost use Rattle.alta_journal.specs.Entry.{Lacks};
 ghost use Rattle.alta_journal.specs.Found.{IsFound, AreFound};
-ghost use Rattle.alta_journal.specs.Reading.{of_eight, cut, name_in, text_in, texts_in, add_in, delete_in, replace_in, entry_in};
+ghost use Rattle.alta_layout.specs.Wide.{of_eight};
+ghost use Rattle.alta_journal.specs.Reading.{cut, name_in, text_in, texts_in, add_in, delete_in, replace_in, entry_in};
 
 use crate::places::{ADD, DELETE, REPLACE, TEXTS_BYTES};
 use crate::{Entry, is_old};
@@ -44,7 +45,7 @@ fn newest_from(alloc: Global, payload: &[u8]) -> Result<Option<Entry>, AllocErro
     }
 }
 
-#[tactic(auto, unfolding(crate::specs::Reading::delete_in, crate::specs::Reading::of_eight))]
+#[tactic(auto, unfolding(crate::specs::Reading::delete_in, alta_layout::specs::Wide::of_eight))]
 fn delete_from(fields: &[u8]) -> Option<Entry>
     ensures { IsFound 2 (delete_in fields.now) result }
 {
@@ -83,7 +84,7 @@ fn replace_from(alloc: Global, fields: &[u8]) -> Result<Option<Entry>, AllocErro
 }
 
 // A number of eight bytes, and what follows.
-#[tactic(auto, unfolding(crate::specs::Reading::cut, crate::specs::Reading::of_eight))]
+#[tactic(auto, unfolding(crate::specs::Reading::cut, alta_layout::specs::Wide::of_eight))]
 fn split_number(bytes: &[u8]) -> Option<(u64, &[u8])>
     ensures { MatchOption result (cut 8 bytes.now ≡ None) (λ x. (cut 8 bytes.now ≡ Some (take 8 bytes.now, x.1.now)) × (x.0 ≡ of_eight (take 8 bytes.now)) × (x.0 < 2 ^ 64)) }
 {

@@ -67,7 +67,7 @@ fn payload_len(entry: &Entry) -> usize
 }
 
 // Appends the payload of an entry.
-#[tactic(auto, using(crate::proofs::Spelling::lengths), unfolding(crate::specs::Entry::eight_bytes))]
+#[tactic(auto, using(crate::proofs::Spelling::lengths), unfolding(alta_layout::specs::Wide::eight_bytes))]
 fn put_payload(bytes: &mut Vec<u8>, entry: &Entry) -> Result<(), AllocError>
     requires { KeepsRules entry.now }
     ensures { OnOk result (bytes.new.items ≡ bytes.old.items ++ payload_of entry.now) }

@@ -23,7 +23,7 @@ mutual
     behind_or : {d : ℕ} {ts us : List Token} {qs rs : List Shape} → IsOr d ts qs → IsAnd d us rs → IsOr d (ts ++ or_word ∷ us) (qs ++ all_of rs ∷ [])
 
 -- the whole list of tokens spells the query
-pub record Reads (ts : List Token) (q : Shape) : Type 0 where
+pub record ReadsQuery (ts : List Token) (q : Shape) : Type 0 where
   pub members : List Shape
   pub spelled : IsOr 32 ts members
   pub is_any : q ≡ any_of members

@@ -2,7 +2,7 @@
 use Rattle.std.specs.Prelude.{◌≡◌, ℕ, ◌≤◌, ◌<◌, Bool, true, false, ◌==◌, List, [], ◌∷◌, length, codes}
 use Rattle.std.specs.List.{list_any, before_first}
 use Rattle.std.specs.Str.{IsUtf8, bytes_eq}
-use Rattle.alta_machine.specs.Command.{Command, Reads}
+use Rattle.alta_machine.specs.Command.{Command, ReadsLine}
 use Rattle.alta_machine.specs.declared.line.TheConstants.{LINE_LIMIT}
 use Rattle.alta_machine.specs.declared.line.LineFault.{LineFault}
 use Rattle.alta_machine.specs.declared.line.LineFault.TheVariants.{TooLong, NotUtf8, Unknown, Bad}
@@ -30,4 +30,4 @@ abbrev pub IsRefused : List ℕ → LineFault → Type 0
 IsRefused line TooLong = LINE_LIMIT < length line
 IsRefused line NotUtf8 = (length line ≤ LINE_LIMIT) × ¬ (IsUtf8 line)
 IsRefused line Unknown = IsText line × (is_verb (word_of line) ≡ false)
-IsRefused line Bad = IsText line × (is_verb (word_of line) ≡ true) × ((command : Command) → ¬ (Reads line command))
+IsRefused line Bad = IsText line × (is_verb (word_of line) ≡ true) × ((command : Command) → ¬ (ReadsLine line command))

@@ -5,7 +5,7 @@ use Rattle.alta_machine.specs.Shape.{Atom, Shape, Shapes, atom, all, any, negate
 use Rattle.alta_machine.specs.Patterns.{AtomMatches, numbers_in}
 use Rattle.alta_machine.specs.Token.{tokens_of}
 use Rattle.alta_machine.specs.Spots.{spots}
-use Rattle.alta_machine.specs.Grammar.{Reads}
+use Rattle.alta_machine.specs.Grammar.{ReadsQuery}
 
 -- the cells of a document match: an atom by its pattern, a value by one of its patterns, the others by truth
 abbrev mutual
@@ -25,7 +25,7 @@ abbrev mutual
 
 -- some UTF-8 text is read as this query
 abbrev pub IsWellFormed : Shape → Type 0
-IsWellFormed q = (text : List ℕ) × IsUtf8 text × Reads (tokens_of (spots text)) q
+IsWellFormed q = (text : List ℕ) × IsUtf8 text × ReadsQuery (tokens_of (spots text)) q
 
 abbrev pub count_of : Shapes → ℕ
 count_of none = 0

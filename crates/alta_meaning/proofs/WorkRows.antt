@@ -6,7 +6,8 @@ use Rattle.std.specs.Str.{chars}
 use Rattle.alta_codec.specs.Numbers.{spelling, number_bytes}
 use Rattle.alta_codec.specs.declared.extent.Extent.{Extent}
 use Rattle.alta_format.specs.Format.{entries_bytes}
-use Rattle.alta_journal.specs.Entry.{four_bytes, eight_bytes}
+use Rattle.alta_layout.specs.Wide.{eight_bytes}
+use Rattle.alta_journal.specs.Entry.{four_bytes}
 use Rattle.alta_journal.specs.Record.{record_of}
 use Rattle.alta_journal.specs.declared.entry.Entry.{Entry}
 use Rattle.alta_journal.specs.declared.entry.Entry.TheVariants.{Add, Delete, Replace}

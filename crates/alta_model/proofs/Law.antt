@@ -10,7 +10,7 @@ use Rattle.std.proofs.lemmas.Bool.{false≢true}
 use Rattle.std.proofs.lemmas.Bool.Decides.{nat_tests}
 use Rattle.std.proofs.lemmas.Slice.Eq.{bytes_eq-Decides}
 use Rattle.alta_codec.specs.Bytes.{has_byte}
-use Rattle.alta_machine.specs.Command.{Command, Reads, IsCount, IsFine, spelled, is_tab, adds, deletes, searches, counts, explains, opens, fetches, closes, ranks, flushes, merges, steps, asks_stats, dumps}
+use Rattle.alta_machine.specs.Command.{Command, ReadsLine, IsCount, IsFine, spelled, is_tab, adds, deletes, searches, counts, explains, opens, fetches, closes, ranks, flushes, merges, steps, asks_stats, dumps}
 use Rattle.alta_machine.specs.LineFaults.{is_space}
 use Rattle.alta_machine.specs.Reading.{parted, command_in, in_parts, alone, with_rest, add_of, text_of, number_of, fetch_of, top_of, count_of, top_count_of, with_name, with_body, with_cursor, with_count, with_query}
 use Rattle.alta_model.proofs.Counts.{some_inj, none_is_not, count_reads, count_spelled, top_count_reads, top_count_spelled, counted_digits, both}
@@ -109,23 +109,23 @@ same_bytes xs ys h = search (rules, bytes_eq-Decides xs ys)
 
 -- the word behind which a rest stands, and the command
 Behind : List ℕ → List ℕ → Command → Type 0
-Behind word rest c = Reads (word ++ 32 ∷ rest) c
+Behind word rest c = ReadsLine (word ++ 32 ∷ rest) c
 
-is_word : (word verb : List ℕ) (rest : List ℕ) (c : Command) → bytes_eq word verb ≡ true → Reads (verb ++ 32 ∷ rest) c → Behind word rest c
+is_word : (word verb : List ℕ) (rest : List ℕ) (c : Command) → bytes_eq word verb ≡ true → ReadsLine (verb ++ 32 ∷ rest) c → Behind word rest c
 unfolding Behind
-is_word word verb rest c e h = subst (λ w. Reads (w ++ 32 ∷ rest) c) (sym (same_bytes word verb e)) h
+is_word word verb rest c e h = subst (λ w. ReadsLine (w ++ 32 ∷ rest) c) (sym (same_bytes word verb e)) h
 
 text_read : (word rest : List ℕ) (c : Command) → text_of word rest ≡ Some c → Behind word rest c
 unfolding text_of
 text_read word rest c h =
-    choice _ _ _ c _ h (λ e s. is_word word (codes "delete") rest c e (subst (Reads _) (some_inj _ c s) (record { spells = refl; fine = tt })))
-    (λ h. choice _ _ _ c _ h (λ e s. is_word word (codes "search") rest c e (subst (Reads _) (some_inj _ c s) (record { spells = refl; fine = tt })))
-    (λ h. choice _ _ _ c _ h (λ e s. is_word word (codes "count") rest c e (subst (Reads _) (some_inj _ c s) (record { spells = refl; fine = tt })))
-    (λ h. choice _ _ _ c _ h (λ e s. is_word word (codes "explain") rest c e (subst (Reads _) (some_inj _ c s) (record { spells = refl; fine = tt })))
-    (λ h. choice _ _ _ c _ h (λ e s. is_word word (codes "open") rest c e (subst (Reads _) (some_inj _ c s) (record { spells = refl; fine = tt })))
+    choice _ _ _ c _ h (λ e s. is_word word (codes "delete") rest c e (subst (ReadsLine _) (some_inj _ c s) (record { spells = refl; fine = tt })))
+    (λ h. choice _ _ _ c _ h (λ e s. is_word word (codes "search") rest c e (subst (ReadsLine _) (some_inj _ c s) (record { spells = refl; fine = tt })))
+    (λ h. choice _ _ _ c _ h (λ e s. is_word word (codes "count") rest c e (subst (ReadsLine _) (some_inj _ c s) (record { spells = refl; fine = tt })))
+    (λ h. choice _ _ _ c _ h (λ e s. is_word word (codes "explain") rest c e (subst (ReadsLine _) (some_inj _ c s) (record { spells = refl; fine = tt })))
+    (λ h. choice _ _ _ c _ h (λ e s. is_word word (codes "open") rest c e (subst (ReadsLine _) (some_inj _ c s) (record { spells = refl; fine = tt })))
     (λ h. absurd (none_is_not c h))))))
 
-alone_read : (word : List ℕ) (c : Command) → alone word ≡ Some c → Reads word c
+alone_read : (word : List ℕ) (c : Command) → alone word ≡ Some c → ReadsLine word c
 unfolding alone
 alone_read word c h =
     choice _ _ _ c _ h (λ e s. same word (codes "flush") flushes e s (record { spells = refl; fine = tt }))
@@ -134,44 +134,44 @@ alone_read word c h =
     (λ h. choice _ _ _ c _ h (λ e s. same word (codes "dump") dumps e s (record { spells = refl; fine = tt }))
     (λ h. absurd (none_is_not c h)))))
   where
-    same : (word verb : List ℕ) (d : Command) → bytes_eq word verb ≡ true → Some d ≡ Some c → Reads verb d → Reads word c
-    same word verb d e s r = subst (Reads word) (some_inj d c s) (subst (λ w. Reads w d) (sym (same_bytes word verb e)) r)
+    same : (word verb : List ℕ) (d : Command) → bytes_eq word verb ≡ true → Some d ≡ Some c → ReadsLine verb d → ReadsLine word c
+    same word verb d e s r = subst (ReadsLine word) (some_inj d c s) (subst (λ w. ReadsLine w d) (sym (same_bytes word verb e)) r)
 
 -- a command made of a count
 count_read : (verb rest : List ℕ) (make : ℕ → Command) (o : Option ℕ) (c : Command) → count_of rest ≡ o → option_map make o ≡ Some c
-    → ((n : ℕ) → IsCount n → spelled (make n) ≡ verb ++ 32 ∷ decimal n) → ((n : ℕ) → IsCount n → IsFine (make n)) → Reads (verb ++ 32 ∷ rest) c
+    → ((n : ℕ) → IsCount n → spelled (make n) ≡ verb ++ 32 ∷ decimal n) → ((n : ℕ) → IsCount n → IsFine (make n)) → ReadsLine (verb ++ 32 ∷ rest) c
 count_read verb rest make None c e h spells fine = absurd (none_is_not c h)
 count_read verb rest make (Some n) c e h spells fine =
     let k = count_spelled rest n e in
-    subst (Reads (verb ++ 32 ∷ rest)) (some_inj (make n) c h)
+    subst (ReadsLine (verb ++ 32 ∷ rest)) (some_inj (make n) c h)
     (record { spells = spells n k.0 ∙ ap (λ t. verb ++ 32 ∷ t) k.1; fine = fine n k.0 })
 
-fetch_counts : (a b : List ℕ) (o p : Option ℕ) (c : Command) → count_of a ≡ o → count_of b ≡ p → with_count o p ≡ Some c → Reads (codes "fetch" ++ 32 ∷ (a ++ 32 ∷ b)) c
+fetch_counts : (a b : List ℕ) (o p : Option ℕ) (c : Command) → count_of a ≡ o → count_of b ≡ p → with_count o p ≡ Some c → ReadsLine (codes "fetch" ++ 32 ∷ (a ++ 32 ∷ b)) c
 fetch_counts a b None p c e f h = absurd (none_is_not c h)
 fetch_counts a b (Some n) None c e f h = absurd (none_is_not c h)
 fetch_counts a b (Some n) (Some m) c e f h =
     let k = count_spelled a n e in
     let l = count_spelled b m f in
-    subst (Reads (codes "fetch" ++ 32 ∷ (a ++ 32 ∷ b))) (some_inj (fetches n m) c h)
+    subst (ReadsLine (codes "fetch" ++ 32 ∷ (a ++ 32 ∷ b))) (some_inj (fetches n m) c h)
     (record { spells = ap (λ t. codes "fetch " ++ (t ++ 32 ∷ decimal m)) k.1 ∙ ap (λ t. codes "fetch " ++ (a ++ 32 ∷ t)) l.1; fine = (k.0, l.0) })
 
-fetch_parts : (rest : List ℕ) (o : Option (List ℕ × List ℕ)) (c : Command) → parted is_space rest ≡ o → with_cursor o ≡ Some c → Reads (codes "fetch" ++ 32 ∷ rest) c
+fetch_parts : (rest : List ℕ) (o : Option (List ℕ × List ℕ)) (c : Command) → parted is_space rest ≡ o → with_cursor o ≡ Some c → ReadsLine (codes "fetch" ++ 32 ∷ rest) c
 fetch_parts rest None c e h = absurd (none_is_not c h)
 fetch_parts rest (Some (a, b)) c e h =
-    subst (λ t. Reads (codes "fetch" ++ 32 ∷ t) c) (space_parts rest a b e) (fetch_counts a b (count_of a) (count_of b) c refl refl h)
+    subst (λ t. ReadsLine (codes "fetch" ++ 32 ∷ t) c) (space_parts rest a b e) (fetch_counts a b (count_of a) (count_of b) c refl refl h)
 
 top_counted : (count query : List ℕ) (o : Option ℕ) (c : Command) → top_count_of count ≡ o → option_map (λ n. ranks n query) o ≡ Some c
-    → Reads (codes "top" ++ 32 ∷ (count ++ 32 ∷ query)) c
+    → ReadsLine (codes "top" ++ 32 ∷ (count ++ 32 ∷ query)) c
 top_counted count query None c e h = absurd (none_is_not c h)
 top_counted count query (Some n) c e h =
     let k = top_count_spelled count n e in
-    subst (Reads (codes "top" ++ 32 ∷ (count ++ 32 ∷ query))) (some_inj (ranks n query) c h)
+    subst (ReadsLine (codes "top" ++ 32 ∷ (count ++ 32 ∷ query))) (some_inj (ranks n query) c h)
     (record { spells = ap (λ t. codes "top " ++ (t ++ 32 ∷ query)) k.1; fine = k.0 })
 
-top_parts : (rest : List ℕ) (o : Option (List ℕ × List ℕ)) (c : Command) → parted is_space rest ≡ o → with_query o ≡ Some c → Reads (codes "top" ++ 32 ∷ rest) c
+top_parts : (rest : List ℕ) (o : Option (List ℕ × List ℕ)) (c : Command) → parted is_space rest ≡ o → with_query o ≡ Some c → ReadsLine (codes "top" ++ 32 ∷ rest) c
 top_parts rest None c e h = absurd (none_is_not c h)
 top_parts rest (Some (count, query)) c e h =
-    subst (λ t. Reads (codes "top" ++ 32 ∷ t) c) (space_parts rest count query e) (top_counted count query (top_count_of count) c refl h)
+    subst (λ t. ReadsLine (codes "top" ++ 32 ∷ t) c) (space_parts rest count query e) (top_counted count query (top_count_of count) c refl h)
 
 number_read : (word rest : List ℕ) (c : Command) → number_of word rest ≡ Some c → Behind word rest c
 unfolding number_of fetch_of top_of
@@ -183,18 +183,18 @@ number_read word rest c h =
     (λ h. absurd (none_is_not c h)))))
 
 body_parts : (name rest : List ℕ) (o : Option (List ℕ × List ℕ)) (c : Command) → has_byte 9 name ≡ false → parted is_tab rest ≡ o → with_body name o ≡ Some c
-    → Reads (codes "add" ++ 32 ∷ (name ++ 9 ∷ rest)) c
+    → ReadsLine (codes "add" ++ 32 ∷ (name ++ 9 ∷ rest)) c
 body_parts name rest None c lacks e h = absurd (none_is_not c h)
 body_parts name rest (Some (title, body)) c lacks e h =
     let k = tab_parts rest title body e in
-    subst (Reads (codes "add" ++ 32 ∷ (name ++ 9 ∷ rest))) (some_inj (adds name title body) c h)
+    subst (ReadsLine (codes "add" ++ 32 ∷ (name ++ 9 ∷ rest))) (some_inj (adds name title body) c h)
     (record { spells = ap (λ t. codes "add " ++ (name ++ 9 ∷ t)) k.1; fine = (lacks, k.0) })
 
-name_parts : (rest : List ℕ) (o : Option (List ℕ × List ℕ)) (c : Command) → parted is_tab rest ≡ o → with_name o ≡ Some c → Reads (codes "add" ++ 32 ∷ rest) c
+name_parts : (rest : List ℕ) (o : Option (List ℕ × List ℕ)) (c : Command) → parted is_tab rest ≡ o → with_name o ≡ Some c → ReadsLine (codes "add" ++ 32 ∷ rest) c
 name_parts rest None c e h = absurd (none_is_not c h)
 name_parts rest (Some (name, more)) c e h =
     let k = tab_parts rest name more e in
-    subst (λ t. Reads (codes "add" ++ 32 ∷ t) c) k.1 (body_parts name more (parted is_tab more) c k.0 refl h)
+    subst (λ t. ReadsLine (codes "add" ++ 32 ∷ t) c) k.1 (body_parts name more (parted is_tab more) c k.0 refl h)
 
 either_read : (word rest : List ℕ) (o : Option Command) (c : Command) → text_of word rest ≡ o → option_or o (number_of word rest) ≡ Some c → Behind word rest c
 either_read word rest None c e h = number_read word rest c h
@@ -206,12 +206,12 @@ rest_read word rest c h =
     choice _ _ _ c _ h (λ e s. is_word word (codes "add") rest c e (name_parts rest (parted is_tab rest) c refl s))
     (λ h. either_read word rest (text_of word rest) c refl h)
 
-parts_read : (text : List ℕ) (o : Option (List ℕ × List ℕ)) (c : Command) → parted is_space text ≡ o → in_parts text o ≡ Some c → Reads text c
+parts_read : (text : List ℕ) (o : Option (List ℕ × List ℕ)) (c : Command) → parted is_space text ≡ o → in_parts text o ≡ Some c → ReadsLine text c
 unfolding Behind
 parts_read text None c e h = alone_read text c h
-parts_read text (Some (word, rest)) c e h = subst (λ t. Reads t c) (space_parts text word rest e) (rest_read word rest c h)
+parts_read text (Some (word, rest)) c e h = subst (λ t. ReadsLine t c) (space_parts text word rest e) (rest_read word rest c h)
 
-pub reading_reads : (text : List ℕ) (c : Command) → command_in text ≡ Some c → Reads text c
+pub reading_reads : (text : List ℕ) (c : Command) → command_in text ≡ Some c → ReadsLine text c
 unfolding command_in
 reading_reads text c h = parts_read text (parted is_space text) c refl h
 
@@ -256,5 +256,5 @@ spelled_reads (steps count) fine = behind (codes "step") (decimal count) (steps 
 spelled_reads asks_stats fine = refl
 spelled_reads dumps fine = refl
 
-pub reads_reading : (text : List ℕ) (c : Command) → Reads text c → command_in text ≡ Some c
+pub reads_reading : (text : List ℕ) (c : Command) → ReadsLine text c → command_in text ≡ Some c
 reads_reading text c h = subst (λ t. command_in t ≡ Some c) h.spells (spelled_reads c h.fine)

@@ -6,7 +6,7 @@ use Rattle.std.proofs.lemmas.Bool.{false≢true}
 use Rattle.std.proofs.lemmas.Bool.Decides.{nat_tests}
 use Rattle.std.proofs.lemmas.Str.{IsUtf8-from_is_utf8, is_utf8-from_IsUtf8}
 use Rattle.alta_machine.specs.declared.line.TheConstants.{LINE_LIMIT}
-use Rattle.alta_machine.specs.Command.{Command, Reads, adds}
+use Rattle.alta_machine.specs.Command.{Command, ReadsLine, adds}
 use Rattle.alta_machine.specs.LineFaults.{IsText, IsRefused, is_verb, word_of}
 use Rattle.alta_machine.specs.Lines.{Reading, asks, refuses, asks_or_refuses, reading_of}
 use Rattle.alta_machine.specs.Reading.{command_in}
@@ -77,7 +77,7 @@ unfolding is_asked
 not_both f c e = false≢true (ap is_asked e)
 
 asked_only : (line : List ℕ) (c : Command) (b t : Bool) (o : Option Command) → nat_lt LINE_LIMIT (length line) ≡ b → is_utf8 line ≡ t → command_in line ≡ o
-    → reading_of line ≡ asks c → IsText line × Reads line c
+    → reading_of line ≡ asks c → IsText line × ReadsLine line c
 asked_only line c true t o e f g h = absurd (not_both TooLong c (sym (reading_is line true t o e f g) ∙ h))
 asked_only line c false false o e f g h = absurd (not_both NotUtf8 c (sym (reading_is line false false o e f g) ∙ h))
 asked_only line c false true (Some d) e f g h =
@@ -87,7 +87,7 @@ asked_only line c false true None e f g h =
     absurd (not_both (if is_verb (word_of line) then Bad else Unknown) c (sym (reading_is line false true None e f g) ∙ h))
 
 -- a line asks for a command exactly where it is a text that spells it
-pub asked : (line : List ℕ) (c : Command) → (reading_of line ≡ asks c → IsText line × Reads line c) × (IsText line × Reads line c → reading_of line ≡ asks c)
+pub asked : (line : List ℕ) (c : Command) → (reading_of line ≡ asks c → IsText line × ReadsLine line c) × (IsText line × ReadsLine line c → reading_of line ≡ asks c)
 asked line c = (
   asked_only line c (nat_lt LINE_LIMIT (length line)) (is_utf8 line) (command_in line) refl refl refl,
   λ h. reading_text line (Some c) h.0 (reads_reading line c h.1),

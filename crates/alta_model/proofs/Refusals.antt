@@ -2,7 +2,7 @@
 use Rattle.std.proofs.Common.{◌≡◌, ℕ, List, refl, ap, sym, subst, ◌∙◌, arith, Bool, true, false}
 use Rattle.std.specs.Prelude.{if◌then◌else◌, Option, None, Result, Ok, Err, option_map}
 use Rattle.std.proofs.lemmas.Bool.{false≢true}
-use Rattle.alta_machine.specs.Command.{Command, Reads, spelled, adds, deletes, searches, counts, explains, opens, fetches, closes, ranks, flushes, merges, steps, asks_stats, dumps}
+use Rattle.alta_machine.specs.Command.{Command, ReadsLine, spelled, adds, deletes, searches, counts, explains, opens, fetches, closes, ranks, flushes, merges, steps, asks_stats, dumps}
 use Rattle.alta_machine.specs.LineFaults.{IsText, IsRefused, is_verb, word_of}
 use Rattle.alta_machine.specs.Reading.{command_in}
 use Rattle.alta_model.specs.Seen.{command_of}
@@ -29,7 +29,7 @@ verb_known (steps count) = refl
 verb_known asks_stats = refl
 verb_known dumps = refl
 
-pub known : (line : List ℕ) (c : Command) → Reads line c → is_verb (word_of line) ≡ true
+pub known : (line : List ℕ) (c : Command) → ReadsLine line c → is_verb (word_of line) ≡ true
 known line c reads = subst (λ t. is_verb (word_of t) ≡ true) reads.spells (verb_known c)
 
 is_given : Result Line LineFault → Bool
@@ -40,13 +40,13 @@ fault_in : LineFault → Result Line LineFault → LineFault
 fault_in d (Ok l) = d
 fault_in d (Err f) = f
 
-pub not_refused : (line : List ℕ) (c : Command) → IsText line → Reads line c → (fault : LineFault) → ¬ (IsRefused line fault)
+pub not_refused : (line : List ℕ) (c : Command) → IsText line → ReadsLine line c → (fault : LineFault) → ¬ (IsRefused line fault)
 not_refused line c text reads TooLong h = omega (arith, h, text.0)
 not_refused line c text reads NotUtf8 h = h.1 text.1
 not_refused line c text reads Unknown h = false≢true (sym h.1 ∙ known line c reads)
 not_refused line c text reads Bad h = h.2 c reads
 
-pub given : (line : List ℕ) (l : Line) (c : Command) → IsText line → Reads line c → (fault : LineFault)
+pub given : (line : List ℕ) (l : Line) (c : Command) → IsText line → ReadsLine line c → (fault : LineFault)
     → (◌≡◌ {A = Result Line LineFault} (Ok l) (Err fault) → IsRefused line fault) × (IsRefused line fault → ◌≡◌ {A = Result Line LineFault} (Ok l) (Err fault))
 unfolding is_given
 given line l c text reads fault = (λ e. absurd (false≢true (sym (ap is_given e))), λ h. absurd (not_refused line c text reads fault h))

@@ -4,7 +4,7 @@
 ghost use Rattle.std.specs.Prelude.{◌≡◌, ◌↔◌, option_map, take, drop, IfOk, OnOk, Err, if◌then◌else◌};
 ghost use Rattle.std.specs.List.{list_any};
 ghost use Rattle.std.specs.Str.{IsUtf8, bytes_eq};
-ghost use Rattle.alta_machine.specs.Command.{Command, Reads, is_tab};
+ghost use Rattle.alta_machine.specs.Command.{Command, ReadsLine, is_tab};
 ghost use Rattle.alta_machine.specs.LineFaults.{IsRefused, IsText, is_space, is_verb, verbs, word_of};
 ghost use Rattle.alta_machine.specs.Reading.{command_in, parted, alone, with_rest, add_of, text_of, number_of, fetch_of, top_of, count_of, top_count_of};
 ghost use Rattle.alta_machine.specs.Lines.{reading_of};
@@ -65,8 +65,8 @@ pub enum Line<'a> {
 /// has not the form of that command.
 pub fn read_line(line: &[u8]) -> Result<Line<'_>, LineFault>
     ensures reading { reading_in result ≡ reading_of line.now }
-    ensures read { IfOk result (λ l. IsText line.now × Reads line.now (command_of l)) }
-    ensures only { (command : Command) → IsText line.now → Reads line.now command → IfOk result (λ l. command_of l ≡ command) }
+    ensures read { IfOk result (λ l. IsText line.now × ReadsLine line.now (command_of l)) }
+    ensures only { (command : Command) → IsText line.now → ReadsLine line.now command → IfOk result (λ l. command_of l ≡ command) }
     ensures refused { (fault : LineFault) → (result ≡ Err fault) ↔ IsRefused line.now fault }
 {
     if line.len() > LINE_LIMIT {

@@ -3,7 +3,7 @@ use Rattle.std.proofs.Common.{◌≡◌, ℕ, suc, ◌+◌, List, [], ◌∷◌,
 use Rattle.std.proofs.lemmas.List.{append_assoc, append-nil}
 use Rattle.alta_machine.specs.Shape.{Side, word, stem, Lone, words, prefix, name, value, Atom, lone, near, Shape, Shapes, atom, all, any, negated, none, more, shapes_of, all_of, any_of}
 use Rattle.alta_machine.specs.Token.{Token, close_paren, and_word, or_word, operand, side_of, weight, total_weight}
-use Rattle.alta_machine.specs.Grammar.{IsUnary, alone, two_sides, behind_not, in_parens, IsAnd, first_unary, beside_and, behind_and, IsOr, first_and, behind_or, Reads}
+use Rattle.alta_machine.specs.Grammar.{IsUnary, alone, two_sides, behind_not, in_parens, IsAnd, first_unary, beside_and, behind_and, IsOr, first_and, behind_or, ReadsQuery}
 use Rattle.alta_machine.specs.Canon.{is_any, is_compound, parens_if, of_side, canon, canon_all, canon_any, canon_behind_or}
 use Rattle.alta_query.proofs.Complete.{total_weight-append}
 
@@ -220,7 +220,7 @@ mutual
   or_words (behind_or {ts = ts} {us = us} {qs = qs} {rs = rs} x y) = omega (arith, total_weight-append ts (or_word ∷ us), words_push qs (all_of rs), words_all rs, or_words x, and_words y)
 
 -- the canonical tokens spell the query
-pub canon_reads : (ts : List Token) (q : Shape) → Reads ts q → Reads (canon q) q
+pub canon_reads : (ts : List Token) (q : Shape) → ReadsQuery ts q → ReadsQuery (canon q) q
 canon_reads ts q r =
     let own : Own 32 q = subst (Own 32) (sym r.is_any) (any_own (or_canon r.spelled)) in
     let x = own_or 32 q own in

@@ -7,7 +7,7 @@ use Rattle.alta_query.specs.Answer.{Gives, IsMemory}
 use Rattle.alta_machine.specs.QueryFaults.{Fault, fault, any_open, has}
 use Rattle.alta_query.specs.Kept.{frames_of}
 use Rattle.alta_machine.specs.Parser as machine
-use Rattle.alta_machine.specs.Parser.{State, marks, or_fault, whole, close}
+use Rattle.alta_machine.specs.Parser.{Parsing, marks, or_fault, whole, close}
 use Rattle.alta_machine.specs.Shape.{Shape, all_of, any_of}
 use Rattle.alta_query.specs.View.{shape}
 use Rattle.alta_machine.specs.declared.cause.Cause.{Cause}
@@ -42,7 +42,7 @@ pub whole_made : (ors ands new : List Query) (l q : Query) → shape l ≡ all_o
 whole_made ors ands new l q e f g = g ∙ ap any_of (and_pushed ors ands new l e f)
 
 -- a `)` behind the last member of an or
-pub closed : (ors ands : List Query) (q : Query) (fs : List machine.Frame) (w : ℕ) (s : State) → shape q ≡ whole (map shape ors) (map shape ands) → close (shape q) fs w ≡ s → close (whole (map shape ors) (map shape ands)) fs (w + 0) ≡ s
+pub closed : (ors ands : List Query) (q : Query) (fs : List machine.Frame) (w : ℕ) (s : Parsing) → shape q ≡ whole (map shape ors) (map shape ands) → close (shape q) fs w ≡ s → close (whole (map shape ors) (map shape ands)) fs (w + 0) ≡ s
 closed ors ands q fs w s e h =
     let zero : w + 0 ≡ w = omega arith in
     ap (λ k. close (whole (map shape ors) (map shape ands)) fs k) zero ∙ ap (λ x. close x fs w) (sym e) ∙ h

@@ -16,7 +16,7 @@ use Rattle.alta_codec.specs.Name.{is_name}
 use Rattle.alta_machine.specs.Numbers.{number_in}
 use Rattle.alta_machine.proofs.Numerals.{are_read}
 use Rattle.alta_machine.specs.Spots.{is_blank, is_solid, is_quote, is_run, first_token, first_len, run_token, plain_token, prefix_token, words_token, name_token, near_token, is_undotted, ordered, dotted, value_token, quoted_token, is_quoted_title, spots_from, spots}
-use Rattle.alta_machine.specs.Grammar.{IsUnary, alone, two_sides, behind_not, in_parens, IsAnd, first_unary, beside_and, behind_and, IsOr, first_and, behind_or, Reads}
+use Rattle.alta_machine.specs.Grammar.{IsUnary, alone, two_sides, behind_not, in_parens, IsAnd, first_unary, beside_and, behind_and, IsOr, first_and, behind_or, ReadsQuery}
 use Rattle.alta_machine.specs.Canon.{is_any, is_compound, parens_if, of_side, atom_tokens, canon, canon_all, canon_any, canon_behind_or}
 use Rattle.alta_machine.specs.Spelling.{title_text, spelled, with_tokens, canonical}
 use Rattle.alta_query.proofs.Reread.{Spells, AllSpell, no_tokens, token_and, cut_written, open_spells, close_spells, or_spells, not_spells}
@@ -341,17 +341,17 @@ mutual
   canon_or_spell none f = no_tokens
   canon_or_spell (more q qs) f = token_and or_spells (spell_append (parens_if (is_any q) (canon q)) (canon_behind_or qs) (parens_spell (is_any q) (canon q) (canon_spell q f.0)) (canon_or_spell qs f.1))
 
-pub read_fine : (text : List ℕ) (q : Shape) → Reads (tokens_of (spots text)) q → IsFineShape q
+pub read_fine : (text : List ℕ) (q : Shape) → ReadsQuery (tokens_of (spots text)) q → IsFineShape q
 unfolding spots
 read_fine text q r = subst IsFineShape (sym r.is_any) (any_fine r.members (or_fine r.spelled (spots_fine text 0 0)))
 
 -- the canonical spelling of a query that some text spells
-pub reads_again : (text : List ℕ) (q : Shape) → Reads (tokens_of (spots text)) q → Reads (tokens_of (spots (canonical q))) q
+pub reads_again : (text : List ℕ) (q : Shape) → ReadsQuery (tokens_of (spots text)) q → ReadsQuery (tokens_of (spots (canonical q))) q
 unfolding spots canonical
 reads_again text q r =
     let fine : IsFineShape q = read_fine text q r in
     let cut : tokens_of (spots (with_tokens [] (canon q))) ≡ canon q = cut_written (canon q) (canon_spell q fine) in
-    subst (λ ts. Reads ts q) (sym cut) (canon_reads (tokens_of (spots text)) q r)
+    subst (λ ts. ReadsQuery ts q) (sym cut) (canon_reads (tokens_of (spots text)) q r)
 
 -- the values of a query that some text spells
 fine_lone : (a : Lone) → IsFineLone a → HasOrderedValues (atom (lone a))
@@ -375,5 +375,5 @@ mutual
   fine_each none f = tt
   fine_each (more q qs) f = (fine_values q f.0, fine_each qs f.1)
 
-pub read_values : (text : List ℕ) (q : Shape) → Reads (tokens_of (spots text)) q → HasOrderedValues q
+pub read_values : (text : List ℕ) (q : Shape) → ReadsQuery (tokens_of (spots text)) q → HasOrderedValues q
 read_values text q r = fine_values q (read_fine text q r)

@@ -4,7 +4,7 @@ use Rattle.std.specs.List.{All}
 use Rattle.std.proofs.lemmas.List.Elements.{All-nil, All-cons, All-head, All-tail, All-push}
 use Rattle.alta_machine.specs.Shape.{Shape, shapes_of, all_of, any_of}
 use Rattle.alta_machine.specs.Token.{Token}
-use Rattle.alta_machine.specs.Grammar.{IsUnary, alone, two_sides, behind_not, in_parens, IsAnd, first_unary, beside_and, behind_and, IsOr, first_and, behind_or, Reads}
+use Rattle.alta_machine.specs.Grammar.{IsUnary, alone, two_sides, behind_not, in_parens, IsAnd, first_unary, beside_and, behind_and, IsOr, first_and, behind_or, ReadsQuery}
 use Rattle.alta_machine.specs.Matches.{HasMembers, HaveMembers}
 
 -- some queries, each of which has members
@@ -48,5 +48,5 @@ mutual
   or_has (first_and {rs = rs} x) = one (all_of rs) (all_has rs (and_has x))
   or_has (behind_or {qs = qs} {rs = rs} x y) = one_more qs (all_of rs) (or_has x) (all_has rs (and_has y))
 
-pub read_has : (ts : List Token) (q : Shape) → Reads ts q → HasMembers q
+pub read_has : (ts : List Token) (q : Shape) → ReadsQuery ts q → HasMembers q
 read_has ts q reads = subst HasMembers (sym reads.is_any) (any_has reads.members (or_has reads.spelled))

@@ -7,7 +7,7 @@ use Rattle.alta_machine.specs.Shape.{Shape}
 use Rattle.alta_machine.specs.Token.{Token, Spot, at, weight}
 use Rattle.alta_machine.specs.Spots.{is_blank, first_token, first_len, spots_from, spots}
 use Rattle.alta_machine.specs.QueryFaults.{Fault, fault}
-use Rattle.alta_machine.specs.Parser.{State, step, run, or_fault, cause_in}
+use Rattle.alta_machine.specs.Parser.{Parsing, after_token, run, or_fault, cause_in}
 use Rattle.alta_machine.specs.declared.cause.Cause.{Cause}
 use Rattle.alta_machine.specs.declared.cause.Cause.TheVariants.{Empty}
 use Rattle.alta_query.proofs.Seen.{run_seen, seen_token}
@@ -67,29 +67,29 @@ spots_blank text p within h =
 pub blank_low : (b : ℕ) → is_blank b ≡ true → b < 128
 blank_low b h = grind (arith, nat_tests)
 
--- what a step keeps
-pub step_kept : (seen : Bool) (s t : State) (k : Token) (p : ℕ) (ts us : List Spot) (e : ℕ) (r : Result Shape Fault) → run_seen seen s us e ≡ r → us ≡ at p k ∷ ts → cause_in s k ≡ None → t ≡ step s k → (t.words ≤ 64) × (run t ts e ≡ r)
+-- what a token keeps
+pub step_kept : (seen : Bool) (s t : Parsing) (k : Token) (p : ℕ) (ts us : List Spot) (e : ℕ) (r : Result Shape Fault) → run_seen seen s us e ≡ r → us ≡ at p k ∷ ts → cause_in s k ≡ None → t ≡ after_token s k → (t.words ≤ 64) × (run t ts e ≡ r)
 step_kept seen s t k p ts us e r same spots none stepped =
     let a : run_seen seen s (at p k ∷ ts) e ≡ r = rw spots at same in
-    let b : or_fault p (cause_in s k) (run (step s k) ts e) ≡ r = sym (seen_token seen s p k ts e) ∙ a in
-    let c : run (step s k) ts e ≡ r = rw none at b in
+    let b : or_fault p (cause_in s k) (run (after_token s k) ts e) ≡ r = sym (seen_token seen s p k ts e) ∙ a in
+    let c : run (after_token s k) ts e ≡ r = rw none at b in
     let w : s.words + weight k ≤ 64 = many_none k s none in
-    let v : (step s k).words ≡ s.words + weight k = step_words k s in
+    let v : (after_token s k).words ≡ s.words + weight k = step_words k s in
     rw stepped (omega arith, c)
 
 -- a fault at a token
-pub step_fault : (seen : Bool) (s : State) (k : Token) (c : Cause) (p : ℕ) (ts us : List Spot) (e : ℕ) (r : Result Shape Fault) → run_seen seen s us e ≡ r → us ≡ at p k ∷ ts → cause_in s k ≡ Some c → r ≡ Err (fault p c)
+pub step_fault : (seen : Bool) (s : Parsing) (k : Token) (c : Cause) (p : ℕ) (ts us : List Spot) (e : ℕ) (r : Result Shape Fault) → run_seen seen s us e ≡ r → us ≡ at p k ∷ ts → cause_in s k ≡ Some c → r ≡ Err (fault p c)
 step_fault seen s k c p ts us e r same spots some =
     let a : run_seen seen s (at p k ∷ ts) e ≡ r = rw spots at same in
-    let b : or_fault p (cause_in s k) (run (step s k) ts e) ≡ r = sym (seen_token seen s p k ts e) ∙ a in
+    let b : or_fault p (cause_in s k) (run (after_token s k) ts e) ≡ r = sym (seen_token seen s p k ts e) ∙ a in
     sym (rw some at b)
 
 -- the text ends behind a token
-pub run_ended : (text : List ℕ) (seen : Bool) (s : State) (p e : ℕ) (r : Result Shape Fault) → length text ≤ p → seen ≡ true → run_seen seen s (spots_from p 0 (drop p text)) e ≡ r → run s [] e ≡ r
+pub run_ended : (text : List ℕ) (seen : Bool) (s : Parsing) (p e : ℕ) (r : Result Shape Fault) → length text ≤ p → seen ≡ true → run_seen seen s (spots_from p 0 (drop p text)) e ≡ r → run s [] e ≡ r
 run_ended text seen s p e r past is same =
     sym (ap (λ b. run_seen b s (spots_from p 0 (drop p text)) e) is ∙ at_drop_all (λ t. run s (spots_from p 0 t) e) text p past) ∙ same
 
 -- the text ends without a token
-pub run_empty : (text : List ℕ) (seen : Bool) (s : State) (p e : ℕ) (r : Result Shape Fault) → length text ≤ p → seen ≡ false → run_seen seen s (spots_from p 0 (drop p text)) e ≡ r → r ≡ Err (fault 0 Empty)
+pub run_empty : (text : List ℕ) (seen : Bool) (s : Parsing) (p e : ℕ) (r : Result Shape Fault) → length text ≤ p → seen ≡ false → run_seen seen s (spots_from p 0 (drop p text)) e ≡ r → r ≡ Err (fault 0 Empty)
 run_empty text seen s p e r past is same =
     sym same ∙ ap (λ b. run_seen b s (spots_from p 0 (drop p text)) e) is ∙ at_drop_all (λ t. run_seen false s (spots_from p 0 t) e) text p past

@@ -10,7 +10,7 @@ use Rattle.std.proofs.lemmas.Str.{IsUtf8-drop, IsUtf8-take, IsUtf8-nil, IsCharBo
 use Rattle.alta_codec.specs.Decimal.{is_count, value_of}
 use Rattle.alta_codec.specs.Name.{is_name}
 use Rattle.alta_machine.specs.Numbers.{number_in}
-use Rattle.alta_machine.specs.Grammar.{IsUnary, alone, two_sides, behind_not, in_parens, IsAnd, first_unary, beside_and, behind_and, IsOr, first_and, behind_or, Reads}
+use Rattle.alta_machine.specs.Grammar.{IsUnary, alone, two_sides, behind_not, in_parens, IsAnd, first_unary, beside_and, behind_and, IsOr, first_and, behind_or, ReadsQuery}
 use Rattle.alta_machine.specs.Patterns.{phrase_pattern, test_of}
 use Rattle.alta_machine.specs.Shape.{Lone, words, prefix, name, value, lone, Side, Shape, all_of}
 use Rattle.alta_machine.specs.Spots.{is_blank, is_solid, is_quote, is_run, words_token, prefix_token, plain_token, name_token, near_token, is_undotted, ordered, value_token, run_token, quoted_token, quoted_len, is_quoted_title, first_token, first_len, spots_from, spots}
@@ -243,6 +243,6 @@ tokens_text p zero (b ∷ bs) u =
     (tokens_text (p + 1) (first_len (b ∷ bs) - 1) bs
     (behind_some (first_len (b ∷ bs)) b bs (first_some b bs solid) (IsUtf8-drop (b ∷ bs) (first_len (b ∷ bs)) u (first_cut b bs u)))))
 
-pub read_text : (text : List ℕ) (q : Shape) → IsUtf8 text → Reads (tokens_of (spots text)) q → HasTextTerms q
+pub read_text : (text : List ℕ) (q : Shape) → IsUtf8 text → ReadsQuery (tokens_of (spots text)) q → HasTextTerms q
 unfolding spots
 read_text text q u reads = subst HasTextTerms (sym reads.is_any) (any_of_text reads.members (or_text reads.spelled (tokens_text 0 0 text u)))

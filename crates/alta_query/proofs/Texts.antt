@@ -8,7 +8,7 @@ use Rattle.std.proofs.lemmas.Str.Ascii.{IsAscii-from_all}
 use Rattle.alta_machine.specs.declared.kinds.TheConstants.{NAME, TITLE_END}
 use Rattle.alta_query.specs.Answer.{Gives}
 use Rattle.alta_machine.specs.QueryFaults.{Mode, expects, has, beside, behind_near, end_cause}
-use Rattle.alta_machine.specs.Parser.{Frame, not_frame, paren_frame, State, start, wrapped, unwrapped, give, whole, close, put, put_last, operand_step, step, run, or_fault, marks}
+use Rattle.alta_machine.specs.Parser.{Frame, not_frame, paren_frame, Parsing, start, wrapped, unwrapped, give, whole, close, put, put_last, operand_step, after_token, run, or_fault, marks}
 use Rattle.alta_machine.specs.Patterns.{Pattern, titled, title_end, phrase_pattern}
 use Rattle.alta_machine.specs.Shape.{Lone, prefix, Atom, lone, Shape, atom, all, any, negated, shapes_of, all_of, any_of}
 use Rattle.alta_query.specs.Texts.{HasTextTerm, AsksForText, HasTextTerms, HaveTextTerms, IsTextFrame, IsTextState, made_of, AddsText}
@@ -94,13 +94,13 @@ put_last_text a (q ∷ []) h k = All-cons HasTextTerms (put a q) [] (put_text a 
 put_last_text a (q ∷ r ∷ qs) h k =
     All-cons HasTextTerms q (put_last a (r ∷ qs)) (k 0 q (omega arith)) (put_last_text a (r ∷ qs) h (All-tail HasTextTerms q (r ∷ qs) k))
 
-operand_text : (m : Mode) (s : State) (a : Lone) → AsksForText (made_of m a) → IsTextState s → IsTextState (operand_step m s a)
+operand_text : (m : Mode) (s : Parsing) (a : Lone) → AsksForText (made_of m a) → IsTextState s → IsTextState (operand_step m s a)
 operand_text expects s a h k = give_text _ (atom (lone a)) s.ors s.ands s.frames _ h k.ors k.ands k.frames
 operand_text has s a h k = give_text _ (atom (lone a)) s.ors s.ands s.frames _ h k.ors k.ands k.frames
 operand_text (beside l) s a h k = give_text _ (atom (lone a)) s.ors s.ands s.frames _ h k.ors k.ands k.frames
 operand_text (behind_near l n) s a h k = record { ors = k.ors; ands = put_last_text (made_of (behind_near l n) a) s.ands h k.ands; frames = k.frames }
 
-pub step_text : (s : State) (t : Token) → AddsText s.mode t → IsTextState s → IsTextState (step s t)
+pub step_text : (s : Parsing) (t : Token) → AddsText s.mode t → IsTextState s → IsTextState (after_token s t)
 step_text s open_paren h k =
     record { ors = All-nil _; ands = All-nil _; frames = All-cons IsTextFrame (paren_frame s.ors s.ands) s.frames (k.ors, k.ands) k.frames }
 step_text s close_paren h k = close_text (whole s.ors s.ands) s.frames _ (whole_text s.ors s.ands k.ors k.ands) k.frames
@@ -119,7 +119,7 @@ read_from p None q r h = cc h
 read_from p (Some c) q r h = absurd (cc h)
 
 -- what is read of a state, at the end of the text
-pub finish_text : (r : Result Query QueryFault) (s : State) (e : ℕ) → Gives r (run s [] e) → IsTextState s → IfOk r (λ q. HasTextTerms (shape q))
+pub finish_text : (r : Result Query QueryFault) (s : Parsing) (e : ℕ) → Gives r (run s [] e) → IsTextState s → IfOk r (λ q. HasTextTerms (shape q))
 finish_text (Err f) s e h k = tt
 finish_text (Ok q) s e h k =
     subst HasTextTerms (read_from e (end_cause s.mode (marks s.frames)) (whole s.ors s.ands) (shape q) h) (whole_text s.ors s.ands k.ors k.ands)

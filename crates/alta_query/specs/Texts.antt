@@ -2,7 +2,7 @@
 use Rattle.std.specs.List.{All}
 use Rattle.std.specs.Str.{IsUtf8}
 use Rattle.alta_machine.specs.QueryFaults.{Mode, expects, has, beside, behind_near}
-use Rattle.alta_machine.specs.Parser.{Frame, not_frame, paren_frame, State, near_atom}
+use Rattle.alta_machine.specs.Parser.{Frame, not_frame, paren_frame, Parsing, near_atom}
 use Rattle.alta_machine.specs.Patterns.{pattern_of}
 use Rattle.alta_machine.specs.Shape.{Lone, Atom, lone, Shape, Shapes, atom, all, any, negated, none, more}
 use Rattle.alta_machine.specs.Token.{Token, open_paren, close_paren, and_word, or_word, not_word, near_word, operand, faulty, side_of}
@@ -35,7 +35,7 @@ IsTextFrame not_frame = Unit {0}
 IsTextFrame (paren_frame ors ands) = All HasTextTerms ors × All HasTextTerms ands
 
 -- each term that was read is UTF-8
-pub record IsTextState (s : State) : Type 0 where
+pub record IsTextState (s : Parsing) : Type 0 where
   pub ors : All HasTextTerms s.ors
   pub ands : All HasTextTerms s.ands
   pub frames : All IsTextFrame s.frames

@@ -6,7 +6,7 @@ ghost use Rattle.alta_query.specs.View.{shape, atom_view, side_view};
 ghost use Rattle.alta_machine.specs.Shape.{Shape, lone, near, negated, all_of, any_of};
 ghost use Rattle.alta_machine.specs.Token.{open_paren, close_paren, side_of, atom_weight};
 ghost use Rattle.alta_query.specs.Pieces.{token_of, atom_in, side_in};
-ghost use Rattle.alta_machine.specs.Parser.{give, step, operand_step, start, run, cause_in, wrapped, unwrapped, whole, close, put, put_last};
+ghost use Rattle.alta_machine.specs.Parser.{give, after_token, operand_step, start, run, cause_in, wrapped, unwrapped, whole, close, put, put_last};
 ghost use Rattle.alta_query.specs.Answer.{Gives};
 ghost use Rattle.alta_machine.specs.QueryFaults as faults;
 ghost use Rattle.alta_machine.specs.QueryFaults.{has, Mark, any_open};
@@ -66,7 +66,7 @@ impl<'a> Machine<'a> {
     /// Reads a token that has no fault.
     pub fn step(&mut self, alloc: Global, kind: Kind<'a>) -> Result<(), AllocError>
         requires { cause_in (state_of self.old) (token_of kind) ≡ None }
-        ensures state { OnOk result (state_of self.new ≡ step (state_of self.old) (token_of kind.entry)) }
+        ensures state { OnOk result (state_of self.new ≡ after_token (state_of self.old) (token_of kind.entry)) }
         ensures text { OnOk result (AddsText (mode_of self.old.mode) (token_of kind.entry)) }
     {
         match kind {
@@ -131,7 +131,7 @@ impl<'a> Machine<'a> {
 
     /// Reads a `(`.
     fn open(&mut self, alloc: Global) -> Result<(), AllocError>
-        ensures { OnOk result (state_of self.new ≡ step (state_of self.old) open_paren) }
+        ensures { OnOk result (state_of self.new ≡ after_token (state_of self.old) open_paren) }
     {
         let ors = mem::replace(&mut self.ors, Vec::new(alloc));
         let ands = mem::replace(&mut self.ands, Vec::new(alloc));
@@ -142,7 +142,7 @@ impl<'a> Machine<'a> {
 
     /// Reads a `)`.
     fn close(&mut self, alloc: Global) -> Result<(), AllocError>
-        ensures { OnOk result (state_of self.new ≡ step (state_of self.old) close_paren) }
+        ensures { OnOk result (state_of self.new ≡ after_token (state_of self.old) close_paren) }
     {
         let ands = mem::replace(&mut self.ands, Vec::new(alloc));
         let ors = mem::replace(&mut self.ors, Vec::new(alloc));

@@ -2,7 +2,7 @@
 
 ghost use Rattle.std.specs.Prelude.{◌≡◌, ℕ, List, ◌++◌, string_bytes, IfOk, OnOk};
 ghost use Rattle.alta_machine.specs.Shape.{Shape, value};
-ghost use Rattle.alta_machine.specs.Grammar.{Reads};
+ghost use Rattle.alta_machine.specs.Grammar.{ReadsQuery};
 ghost use Rattle.alta_machine.specs.Spots.{spots};
 ghost use Rattle.alta_query.specs.View.{shape, atom_view, side_view};
 ghost use Rattle.alta_machine.specs.Token.{operand, near_word, tokens_of};
@@ -198,5 +198,5 @@ fn put_space(out: &mut String) -> Result<(), AllocError>
 
 /// A law, and nothing to run: the canonical spelling of a query that some text spells is read as that query.
 pub fn reads_back()
-    ensures { (text : List ℕ) (q : Shape) → Reads (tokens_of (spots text)) q → Reads (tokens_of (spots (canonical q))) q }
+    ensures { (text : List ℕ) (q : Shape) → ReadsQuery (tokens_of (spots text)) q → ReadsQuery (tokens_of (spots (canonical q))) q }
 {}

@@ -3,7 +3,7 @@
 ghost use Rattle.std.specs.Prelude.{◌≡◌, ◌⊎◌, ◌↔◌, ℕ, List, length, Some, Ok, Err, IfOk, IfErr, MatchResult};
 ghost use Rattle.alta_machine.specs.Shape.{Shape};
 ghost use Rattle.alta_query.specs.View.{shape};
-ghost use Rattle.alta_machine.specs.Grammar.{Reads};
+ghost use Rattle.alta_machine.specs.Grammar.{ReadsQuery};
 ghost use Rattle.alta_machine.specs.QueryFaults.{Fault, fault_of};
 ghost use Rattle.alta_query.specs.Laws.{IsDecided};
 ghost use Rattle.alta_machine.specs.Spots.{spots};
@@ -65,9 +65,9 @@ fn read(alloc: Global, text: &str) -> Result<Query, QueryFault>
 pub fn parse(alloc: Global, text: &str) -> Result<Query, QueryFault>
     ensures reading { Gives result (query_of text.now) }
     // What is read is in the grammar.
-    ensures found { IfOk result (λ q. Reads (tokens_of (spots text.now)) (shape q)) }
+    ensures found { IfOk result (λ q. ReadsQuery (tokens_of (spots text.now)) (shape q)) }
     // What is in the grammar is read, unless memory runs out.
-    ensures only { (q : Shape) → Reads (tokens_of (spots text.now)) q → MatchResult result (λ r. shape r ≡ q) IsMemory }
+    ensures only { (q : Shape) → ReadsQuery (tokens_of (spots text.now)) q → MatchResult result (λ r. shape r ≡ q) IsMemory }
     // A fault is the first one, unless memory runs out.
     ensures first { IfErr result (λ e. IsMemory e ⊎ (fault_of (spots text.now) (length text.now) ≡ Some (fault_in e))) }
     // The first fault is answered, unless memory runs out.
@@ -87,7 +87,7 @@ pub fn one_or_other()
 /// A law, and nothing to run: a text is read as a query exactly where it spells that query, and with a fault exactly where
 /// that is its first fault.
 pub fn a_query_is_read_one_way()
-    ensures read { (text : List ℕ) (q : Shape) → (query_of text ≡ Ok q) ↔ Reads (tokens_of (spots text)) q }
+    ensures read { (text : List ℕ) (q : Shape) → (query_of text ≡ Ok q) ↔ ReadsQuery (tokens_of (spots text)) q }
     ensures refused { (text : List ℕ) (f : Fault) → (query_of text ≡ Err f) ↔ (fault_of (spots text) (length text) ≡ Some f) }
 {}
 

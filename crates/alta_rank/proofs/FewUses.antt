@@ -4,7 +4,7 @@ use Rattle.std.specs.Prelude.{Some}
 use Rattle.std.proofs.lemmas.List.{length-map}
 use Rattle.alta_machine.specs.Shape.{Side, Lone, words, prefix, name, value, lone, Shape, shapes_of, all_of, any_of}
 use Rattle.alta_machine.specs.Token.{Token, close_paren, and_word, or_word, operand, side_of, weight, total_weight}
-use Rattle.alta_machine.specs.Grammar.{IsUnary, alone, two_sides, behind_not, in_parens, IsAnd, first_unary, beside_and, behind_and, IsOr, first_and, behind_or, Reads}
+use Rattle.alta_machine.specs.Grammar.{IsUnary, alone, two_sides, behind_not, in_parens, IsAnd, first_unary, beside_and, behind_and, IsOr, first_and, behind_or, ReadsQuery}
 use Rattle.alta_query.proofs.Complete.{total_weight-append}
 use Rattle.alta_machine.specs.Uses.{use_of, atom_uses, uses_of, uses_in}
 
@@ -64,6 +64,6 @@ mutual
   or_few (first_and {rs = rs} x) = omega (arith, and_few x, of_all rs, length-append (uses_of (all_of rs)) [])
   or_few (behind_or {ts = ts} {us = us} {qs = qs} {rs = rs} x y) = omega (arith, total_weight-append ts (or_word ∷ us), in_push qs (all_of rs), of_all rs, or_few x, and_few y)
 
-pub read_few : (ts : List Token) (q : Shape) → Reads ts q → length (uses_of q) ≤ 64
+pub read_few : (ts : List Token) (q : Shape) → ReadsQuery ts q → length (uses_of q) ≤ 64
 read_few ts q reads =
     subst (λ x. length (uses_of x) ≤ 64) (sym reads.is_any) (omega (arith, of_any reads.members, or_few reads.spelled, reads.few_words))

@@ -7,7 +7,8 @@ use Rattle.std.proofs.lemmas.List.Elements.{All-nil, All-cons, All-head, All-tai
 use Rattle.alta_layout.specs.declared.places.TheConstants.{HEAD_BYTES}
 use Rattle.alta_codec.specs.declared.extent.Extent.{Extent}
 use Rattle.alta_disk.specs.Parts.{Apart}
-use Rattle.alta_root.specs.Gaps.{IsGap, IsFirstGap, IsLongestGap, starts_beside, is_beside, is_gap, least, least_with, first_gap, room_before, room_beside, room_at, greatest, greatest_gap}
+use Rattle.alta_codec.specs.Lists.{greatest_of}
+use Rattle.alta_root.specs.Gaps.{IsGap, IsFirstGap, IsLongestGap, starts_beside, is_beside, is_gap, least, least_with, first_gap, room_before, room_beside, room_at, greatest_gap}
 use Rattle.alta_root.specs.Meeting.{AreClear, IsRoom, Bounds, IsRoomAt, IsThere}
 use Rattle.alta_root.proofs.GapLaws as laws
 
@@ -227,15 +228,15 @@ room_at_is es limit at =
         (λ past. let none : room_beside at (limit - at) es ≡ 0 = omega (arith, (room_beside_is at (limit - at) es).less, past) in subst (IsRoomAt es limit at) (sym none) (laws.no_room es limit at (inr past)))
         (λ inside. laws.room_at_place es limit at (room_beside at (limit - at) es) behind inside (room_beside_is at (limit - at) es)) (cases_lt limit at)
 
-greatest_there : (es : List Extent) (limit : ℕ) (starts : List ℕ) → IsThere es limit (greatest (map (room_at es limit) starts))
+greatest_there : (es : List Extent) (limit : ℕ) (starts : List ℕ) → IsThere es limit (greatest_of (map (room_at es limit) starts))
 greatest_there es limit [] = inl refl
 greatest_there es limit (s ∷ ss) =
     let room = room_at es limit s in
-    let rest = greatest (map (room_at es limit) ss) in
+    let rest = greatest_of (map (room_at es limit) ss) in
     ⊎_elim (λ less. let second : max room rest ≡ rest = omega (arith, less) in subst (IsThere es limit) (sym second) (greatest_there es limit ss))
     (λ more. let first : max room rest ≡ room = omega (arith, more) in subst (IsThere es limit) (sym first) (⊎_elim (λ none. inl none) (λ gap. inr (s, gap)) (room_at_is es limit s).there)) (cases_lt room rest)
 
-greatest_bounds : (es : List Extent) (limit : ℕ) (starts : List ℕ) (room : ℕ) → greatest (map (room_at es limit) starts) ≤ room → All (Bounds es limit room) starts
+greatest_bounds : (es : List Extent) (limit : ℕ) (starts : List ℕ) (room : ℕ) → greatest_of (map (room_at es limit) starts) ≤ room → All (Bounds es limit room) starts
 greatest_bounds es limit [] room le = All-nil (Bounds es limit room)
 greatest_bounds es limit (s ∷ ss) room le =
     All-cons (Bounds es limit room) s ss (λ more gap. omega (arith, (room_at_is es limit s).most more gap, le)) (greatest_bounds es limit ss room (omega (arith, le)))

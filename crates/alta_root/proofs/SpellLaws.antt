@@ -2,18 +2,19 @@
 use Rattle.std.proofs.Common.{◌≡◌, ◌⊎◌, ⊎_elim, ℕ, zero, suc, ◌+◌, ◌-◌, ◌*◌, ◌<◌, ◌≤◌, ◌^◌, ◌&&◌, Bool, true, false, List, [], ◌∷◌, ◌++◌, length, take, drop, replicate, get_or, Ok, refl, sym, ap, subst, ◌∙◌, arith, append_assoc, length-append}
 use Rattle.std.specs.Prelude.{IsTrue, nat_le, ◌==◌, ◌||◌}
 use Rattle.std.specs.List.{All, list_all, flat_map}
-use Rattle.std.specs.Int.{w64, to_be_bytes, from_be_bytes}
+use Rattle.std.specs.Int.{w64, to_be_bytes}
 use Rattle.std.proofs.lemmas.Bool.{le-leb, eqb-true}
 use Rattle.std.proofs.lemmas.List.{append-nil, flat_map_more, take_more, take_at, drop_at, drop-replicate, length-replicate, length-take-le, length-drop, take-append-drop}
 use Rattle.std.proofs.Math.Seq.{take-append-add}
 use Rattle.std.proofs.lemmas.List.Elements.{All-nil, All-cons, All-head, All-tail}
-use Rattle.std.proofs.lemmas.Nat.{be_bytes_8, from_be_bytes-to_be_bytes_8}
 use Rattle.alta_layout.specs.declared.places.TheConstants.{HEAD_BYTES}
+use Rattle.alta_layout.specs.Wide.{eight_bytes, of_eight}
+use Rattle.alta_layout.proofs.WideLaws.{eight_long, of_eight-eight, eight-of_eight}
 use Rattle.alta_codec.specs.declared.extent.Extent.{Extent}
 use Rattle.alta_format.specs.Format.{HasText, Spells, AreBytes}
 use Rattle.alta_format.proofs.FormatLaws.{AreBytes-take, AreBytes-drop, AreBytes-rest, part_found, part_reads}
 use Rattle.alta_root.specs.Slots.{root_in}
-use Rattle.alta_root.specs.Root.{extents_of, no_extent, AreApart, IsExtent, AreExtents, IsWord, IsSound, number_in, extent_in, are_apart, is_extent, is_list, with_level, levels_format, root_format, wide_bytes, extent_bytes, fields_of, body_of}
+use Rattle.alta_root.specs.Root.{extents_of, no_extent, AreApart, IsExtent, AreExtents, IsWord, IsSound, extent_in, are_apart, is_extent, is_list, with_level, levels_format, root_format, extent_bytes, fields_of, body_of}
 use Rattle.alta_root.specs.declared.places.TheConstants.{BODY_BYTES, FIELDS_BYTES, VERSION, LEVELS, LEVEL_BYTES, LAST_NEXT, DOCUMENT_CELLS}
 use Rattle.alta_root.specs.declared.root.Root.{Root}
 
@@ -70,14 +71,6 @@ list_is size extent list =
     ⊎_elim (λ none. or_left _ _ (subst (λ (e : Extent). IsTrue ((e.place == 0) && (e.bytes == 0))) (sym none) refl))
     (λ some. or_right ((extent.place == 0) && (extent.bytes == 0)) (is_extent 1 size [] extent) (extent_is 1 size [] extent some)) list
 
-wide_long : (n : ℕ) → length (wide_bytes n) ≡ 8
-unfolding wide_bytes
-wide_long n = refl
-
-wide_number : (n : ℕ) → n < 2 ^ 64 → number_in (wide_bytes n) ≡ n
-unfolding wide_bytes number_in
-wide_number n below = from_be_bytes-to_be_bytes_8 n below
-
 abbrev with_bytes : Extent → ℕ → Extent
 with_bytes extent n = record { place = extent.place; bytes = n }
 
@@ -86,12 +79,12 @@ with_place extent n = record { place = n; bytes = extent.bytes }
 
 extent_read : (extent : Extent) → IsWord extent → extent_in (extent_bytes extent) ≡ extent
 extent_read extent word =
-    let place : number_in (take 8 (extent_bytes extent)) ≡ extent.place = ap number_in (take_at (wide_bytes extent.place) (wide_bytes extent.bytes) 8 (wide_long extent.place)) ∙ wide_number extent.place word.0 in
-    let bytes : number_in (drop 8 (extent_bytes extent)) ≡ extent.bytes = ap number_in (drop_at (wide_bytes extent.place) (wide_bytes extent.bytes) 8 (wide_long extent.place)) ∙ wide_number extent.bytes word.1 in
+    let place : of_eight (take 8 (extent_bytes extent)) ≡ extent.place = ap of_eight (take_at (eight_bytes extent.place) (eight_bytes extent.bytes) 8 (eight_long extent.place)) ∙ of_eight-eight extent.place word.0 in
+    let bytes : of_eight (drop 8 (extent_bytes extent)) ≡ extent.bytes = ap of_eight (drop_at (eight_bytes extent.place) (eight_bytes extent.bytes) 8 (eight_long extent.place)) ∙ of_eight-eight extent.bytes word.1 in
     ap (with_place (extent_in (extent_bytes extent))) place ∙ ap (with_bytes extent) bytes
 
 extent_long : (extent : Extent) → length (extent_bytes extent) ≡ 16
-extent_long extent = omega (arith, length-append (wide_bytes extent.place) (wide_bytes extent.bytes), wide_long extent.place, wide_long extent.bytes)
+extent_long extent = omega (arith, length-append (eight_bytes extent.place) (eight_bytes extent.bytes), eight_long extent.place, eight_long extent.bytes)
 
 -- the root with these levels behind its own
 abbrev with_levels : Root → List Extent → Root
@@ -115,12 +108,12 @@ levels_spell size (l ∷ ls) root rest are words =
 
 -- the fields one behind the other
 fields_behind : (root : Root) (rest : List ℕ) → fields_of root ++ rest
-    ≡ root.version ∷ root.sequence ∷ length root.levels.items ∷ 0 ∷ 0 ∷ 0 ∷ 0 ∷ (wide_bytes root.next_number ++ (wide_bytes root.next_location ++ (extent_bytes root.deletions ++ (flat_map extent_bytes root.levels.items ++ rest))))
+    ≡ root.version ∷ root.sequence ∷ length root.levels.items ∷ 0 ∷ 0 ∷ 0 ∷ 0 ∷ (eight_bytes root.next_number ++ (eight_bytes root.next_location ++ (extent_bytes root.deletions ++ (flat_map extent_bytes root.levels.items ++ rest))))
 unfolding fields_of
 fields_behind root rest =
     let head : List ℕ = root.version ∷ root.sequence ∷ length root.levels.items ∷ 0 ∷ 0 ∷ 0 ∷ 0 ∷ [] in
-    let number = wide_bytes root.next_number in
-    let location = wide_bytes root.next_location in
+    let number = eight_bytes root.next_number in
+    let location = eight_bytes root.next_location in
     let list = extent_bytes root.deletions in
     let levels = flat_map extent_bytes root.levels.items in
     append_assoc (head ++ number ++ location ++ list) levels rest
@@ -128,8 +121,8 @@ fields_behind root rest =
     ∙ append_assoc (head ++ number) location (list ++ (levels ++ rest))
     ∙ append_assoc head number (location ++ (list ++ (levels ++ rest)))
 
-number_parts : (n : ℕ) (behind : List ℕ) → wide_bytes n ++ behind ≡ to_be_bytes w64 n ++ behind
-unfolding wide_bytes
+number_parts : (n : ℕ) (behind : List ℕ) → eight_bytes n ++ behind ≡ to_be_bytes w64 n ++ behind
+unfolding eight_bytes
 number_parts n behind = refl
 
 pub root_spells : (size : ℕ) (root : Root) (bytes rest : List ℕ) → IsSound size root → root.sequence < 256 → All IsWord (extents_of root) → bytes ≡ fields_of root ++ rest → Spells (root_format size) bytes root rest
@@ -138,8 +131,8 @@ root_spells size root bytes rest sound low words is =
     let levels = flat_map extent_bytes root.levels.items in
     let at_levels = levels ++ rest in
     let at_list = extent_bytes root.deletions ++ at_levels in
-    let at_location = wide_bytes root.next_location ++ at_list in
-    let at_number = wide_bytes root.next_number ++ at_location in
+    let at_location = eight_bytes root.next_location ++ at_list in
+    let at_number = eight_bytes root.next_number ++ at_location in
     let deletions : extent_in (extent_bytes root.deletions) ≡ root.deletions = extent_read root.deletions (All-head IsWord root.deletions root.levels.items words) in
     let start : Extent → Root = λ e. record { version = root.version; sequence = root.sequence; next_number = root.next_number; next_location = root.next_location; levels = record { items = [] }; deletions = e } in
     let from_start = levels_spell size root.levels.items (start root.deletions) rest sound.levels (All-tail IsWord root.deletions root.levels.items words) in
@@ -192,8 +185,8 @@ pub fields_long : (root : Root) → length (fields_of root) ≡ 39 + 16 * length
 unfolding fields_of
 fields_long root =
     let head : List ℕ = root.version ∷ root.sequence ∷ length root.levels.items ∷ 0 ∷ 0 ∷ 0 ∷ 0 ∷ [] in
-    let number = wide_bytes root.next_number in
-    let location = wide_bytes root.next_location in
+    let number = eight_bytes root.next_number in
+    let location = eight_bytes root.next_location in
     let list = extent_bytes root.deletions in
     let levels = flat_map extent_bytes root.levels.items in
     let seven : length head ≡ 7 = refl in
@@ -204,8 +197,8 @@ fields_long root =
       length-append (head ++ number ++ location) list,
       length-append (head ++ number) location,
       length-append head number,
-      wide_long root.next_number,
-      wide_long root.next_location,
+      eight_long root.next_number,
+      eight_long root.next_location,
       extent_long root.deletions,
       levels_long root.levels.items,
     )
@@ -250,15 +243,11 @@ pub reads_back : (size start : ℕ) (root : Root) (bytes rest : List ℕ) → si
 unfolding root_in
 reads_back size start root bytes rest below sound low is = part_reads (root_format size) bytes start root rest (root_spells size root bytes rest sound low (sound_words size root below sound) is)
 
-wide_spelled : (bytes : List ℕ) → length bytes ≡ 8 → AreBytes bytes → wide_bytes (number_in bytes) ≡ bytes
-unfolding wide_bytes number_in
-wide_spelled bytes long fits = be_bytes_8 bytes (from_be_bytes w64 bytes) long fits refl
-
 extent_spelled : (text : List ℕ) → length text ≡ 16 → AreBytes text → extent_bytes (extent_in text) ≡ text
 extent_spelled text long fits =
-    let front = wide_spelled (take 8 text) (length-take-le 8 text (omega (arith, long))) (AreBytes-take 8 text fits) in
-    let back = wide_spelled (drop 8 text) (omega (arith, length-drop 8 text, long)) (AreBytes-drop 8 text fits) in
-    ap (λ (l : List ℕ). l ++ wide_bytes (number_in (drop 8 text))) front ∙ ap (λ (l : List ℕ). take 8 text ++ l) back ∙ take-append-drop 8 text
+    let front = eight-of_eight (take 8 text) (length-take-le 8 text (omega (arith, long))) (AreBytes-take 8 text fits) in
+    let back = eight-of_eight (drop 8 text) (omega (arith, length-drop 8 text, long)) (AreBytes-drop 8 text fits) in
+    ap (λ (l : List ℕ). l ++ eight_bytes (of_eight (drop 8 text))) front ∙ ap (λ (l : List ℕ). take 8 text ++ l) back ∙ take-append-drop 8 text
 
 front_bytes : (len : ℕ) (bytes text behind : List ℕ) → AreBytes bytes → HasText len bytes text behind → AreBytes text
 front_bytes len bytes text behind fits has =
@@ -311,16 +300,16 @@ half_start version sequence number location list = record { version = version; s
 
 -- the parts of bytes that spell a root, one behind the other
 parts_spelled : (v s c n l : ℕ) (list : Extent) (levels : List Extent) (root : Root) (bytes rest b1 b2 b3 b4 b5 b6 b7 : List ℕ) → root ≡ with_levels (half_start v s n l list) levels → length levels ≡ c
-    → bytes ≡ v ∷ b1 → b1 ≡ s ∷ b2 → b2 ≡ c ∷ b3 → b3 ≡ 0 ∷ 0 ∷ 0 ∷ 0 ∷ b4 → b4 ≡ wide_bytes n ++ b5 → b5 ≡ wide_bytes l ++ b6 → b6 ≡ extent_bytes list ++ b7 → b7 ≡ flat_map extent_bytes levels ++ rest
+    → bytes ≡ v ∷ b1 → b1 ≡ s ∷ b2 → b2 ≡ c ∷ b3 → b3 ≡ 0 ∷ 0 ∷ 0 ∷ 0 ∷ b4 → b4 ≡ eight_bytes n ++ b5 → b5 ≡ eight_bytes l ++ b6 → b6 ≡ extent_bytes list ++ b7 → b7 ≡ flat_map extent_bytes levels ++ rest
     → bytes ≡ fields_of root ++ rest
 parts_spelled v s c n l list levels root bytes rest b1 b2 b3 b4 b5 b6 b7 root_is count p0 p1 p2 p3 p4 p5 p6 p7 =
     let made = with_levels (half_start v s n l list) levels in
     p0 ∙ ap (λ (t : List ℕ). v ∷ t) (p1 ∙ ap (λ (t : List ℕ). s ∷ t) (p2 ∙ ap (λ (k : ℕ). k ∷ b3) (sym count) ∙ ap (λ (t : List ℕ). length levels ∷ t) (p3 ∙ ap (λ (t : List ℕ). 0 ∷ 0 ∷ 0 ∷ 0 ∷ t)
-    (p4 ∙ ap (λ (t : List ℕ). wide_bytes n ++ t) (p5 ∙ ap (λ (t : List ℕ). wide_bytes l ++ t) (p6 ∙ ap (λ (t : List ℕ). extent_bytes list ++ t) p7))))))
+    (p4 ∙ ap (λ (t : List ℕ). eight_bytes n ++ t) (p5 ∙ ap (λ (t : List ℕ). eight_bytes l ++ t) (p6 ∙ ap (λ (t : List ℕ). extent_bytes list ++ t) p7))))))
     ∙ sym (fields_behind made rest) ∙ ap (λ (r : Root). fields_of r ++ rest) (sym root_is)
 
 spells_bytes : (size : ℕ) (root : Root) (bytes rest : List ℕ) → AreBytes bytes → Spells (root_format size) bytes root rest → bytes ≡ fields_of root ++ rest
-unfolding root_format Spells wide_bytes
+unfolding root_format Spells eight_bytes
 spells_bytes size root bytes rest fits (v, b1, hv, kv, (s, b2, hs, ks, (c, b3, hc, kc, (z, b4, hz, kz, (n, b5, hn, kn, (l, b6, hl, kl, (d, b7, hd, kd, more))))))) =
     let f1 = AreBytes-rest bytes (v ∷ []) b1 fits hv.parts in
     let f2 = AreBytes-rest b1 (s ∷ []) b2 f1 hs.parts in

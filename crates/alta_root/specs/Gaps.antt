@@ -1,7 +1,8 @@
 -- Gaps between extents.
-use Rattle.std.specs.Prelude.{◌≡◌, ◌⊎◌, ℕ, ◌+◌, ◌-◌, ◌≤◌, min, max, nat_le, Bool, ◌&&◌, ◌||◌, if◌then◌else◌, List, [], ◌∷◌, ◌++◌, map, Option, Some, None}
+use Rattle.std.specs.Prelude.{◌≡◌, ◌⊎◌, ℕ, ◌+◌, ◌-◌, ◌≤◌, min, nat_le, Bool, ◌&&◌, ◌||◌, if◌then◌else◌, List, [], ◌∷◌, ◌++◌, map, Option, Some, None}
 use Rattle.std.specs.List.{All, filter, list_all}
 use Rattle.alta_layout.specs.declared.places.TheConstants.{HEAD_BYTES}
+use Rattle.alta_codec.specs.Lists.{greatest_of}
 use Rattle.alta_codec.specs.declared.extent.Extent.{Extent}
 use Rattle.alta_disk.specs.Parts.{Apart}
 use Rattle.alta_root.specs.Root.{extents_of}
@@ -64,10 +65,6 @@ room_beside at bytes (extent ∷ more) = room_beside at (room_before at bytes ex
 abbrev pub room_at : List Extent → ℕ → ℕ → ℕ
 room_at extents limit at = if nat_le HEAD_BYTES at then room_beside at (limit - at) extents else 0
 
-abbrev pub greatest : List ℕ → ℕ
-greatest [] = 0
-greatest (x ∷ xs) = max x (greatest xs)
-
 -- the most bytes that have a gap
 abbrev pub greatest_gap : List Extent → ℕ → ℕ
-greatest_gap extents limit = greatest (map (room_at extents limit) (starts_beside extents))
+greatest_gap extents limit = greatest_of (map (room_at extents limit) (starts_beside extents))

@@ -3,7 +3,8 @@ ghost use Rattle.std.specs.Prelude.{◌≡◌, ℕ, ◌+◌, ◌<◌, ◌≤◌,
 ghost use Rattle.std.specs.List.{All, list_all};
 ghost use Rattle.alta_format.specs.Gives.{Gives, NeverMemory};
 ghost use Rattle.alta_format.specs.Format.{read};
-ghost use Rattle.alta_root.specs.Root.{root_format, levels_format, number_in, extent_in, extents_of, are_apart, is_extent, is_list, is_version as is_version_number, is_next_number, is_next_location};
+ghost use Rattle.alta_layout.specs.Wide.{of_eight};
+ghost use Rattle.alta_root.specs.Root.{root_format, levels_format, extent_in, extents_of, are_apart, is_extent, is_list, is_version as is_version_number, is_next_number, is_next_location};
 ghost use Rattle.alta_root.specs.Slots.{root_in};
 ghost use Rattle.alta_root.specs.Answers.{Says};
 
@@ -95,7 +96,7 @@ fn levels_at(bytes: &[u8], size: u64, mut root: Root, count: u8) -> Result<(Root
     Ok((root, rest))
 }
 
-#[tactic(auto, unfolding(crate::specs::Root::number_in))]
+#[tactic(auto, unfolding(alta_layout::specs::Wide::of_eight))]
 fn extent_of(bytes: &[u8]) -> Extent
     requires { length bytes.now ≡ 16 }
     ensures { result ≡ extent_in bytes.now }
@@ -107,10 +108,10 @@ fn extent_of(bytes: &[u8]) -> Extent
     }
 }
 
-#[tactic(auto, unfolding(crate::specs::Root::number_in))]
+#[tactic(auto, unfolding(alta_layout::specs::Wide::of_eight))]
 fn number_of(bytes: &[u8]) -> u64
     requires { length bytes.now ≡ 8 }
-    ensures { result ≡ number_in bytes.now }
+    ensures { result ≡ of_eight bytes.now }
 {
     let mut number = [0u8; 8];
     number.copy_from_slice(bytes);

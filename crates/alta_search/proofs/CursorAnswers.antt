@@ -13,7 +13,7 @@ use Rattle.alta_machine.specs.declared.document.Document.{Document}
 use Rattle.alta_search.specs.Answers.{IsPage, coming}
 use Rattle.alta_machine.specs.Searching.{told}
 use Rattle.alta_machine.specs.OpenAnswers.{OpenAnswers, is_taken, fetched, first_free, least_free, left_of, number_of, with_opened, with_fetched, without_cursor}
-use Rattle.alta_search.specs.Open.{AreLeft, AreNumbers, AreOpen, IsFetch, IsFetched, IsOpen, IsPageOf, number_in, work_of}
+use Rattle.alta_search.specs.Open.{AreLeft, AreNumbers, AreOpen, IsFetch, IsFetched, IsOpen, IsPageOf, cursor_number, work_of}
 use Rattle.alta_search.specs.Plans.{lists, locations}
 use Rattle.alta_search.specs.Told.{answer_of}
 use Rattle.alta_search.specs.View.{CursorView, Shows}
@@ -30,11 +30,11 @@ same_length [] (a ∷ all) h = absurd h
 same_length (c ∷ cs) [] h = absurd h
 same_length (c ∷ cs) (a ∷ all) (here, h) = ap suc (same_length cs all h)
 
-pub same_numbers : (cs : List OpenCursor) (all : List OpenAnswers) → AreOpen cs all → map number_in cs ≡ map number_of all
+pub same_numbers : (cs : List OpenCursor) (all : List OpenAnswers) → AreOpen cs all → map cursor_number cs ≡ map number_of all
 same_numbers [] [] h = refl
 same_numbers [] (a ∷ all) h = absurd h
 same_numbers (c ∷ cs) [] h = absurd h
-same_numbers (c ∷ cs) (a ∷ all) (here, h) = ap (λ n. n ∷ map number_in cs) here.number ∙ ap (λ ns. a.number ∷ ns) (same_numbers cs all h)
+same_numbers (c ∷ cs) (a ∷ all) (here, h) = ap (λ n. n ∷ map cursor_number cs) here.number ∙ ap (λ ns. a.number ∷ ns) (same_numbers cs all h)
 
 -- one more at the end
 pub open_push : (cs : List OpenCursor) (all : List OpenAnswers) (c : OpenCursor) (a : OpenAnswers) → AreOpen cs all → IsOpen c a → AreOpen (cs ++ c ∷ []) (all ++ a ∷ [])
@@ -44,10 +44,10 @@ open_push (d ∷ cs) [] c a h new = absurd h
 open_push (d ∷ cs) (b ∷ all) c a (here, h) new = (here, open_push cs all c a h new)
 
 -- the free number of both is the same
-pub same_free : (cs : List OpenCursor) (all : List OpenAnswers) → AreOpen cs all → first_free (length cs) 1 (map number_in cs) ≡ least_free all
-same_free cs all h = ap (λ k. first_free k 1 (map number_in cs)) (same_length cs all h) ∙ ap (first_free (length all) 1) (same_numbers cs all h)
+pub same_free : (cs : List OpenCursor) (all : List OpenAnswers) → AreOpen cs all → first_free (length cs) 1 (map cursor_number cs) ≡ least_free all
+same_free cs all h = ap (λ k. first_free k 1 (map cursor_number cs)) (same_length cs all h) ∙ ap (first_free (length all) 1) (same_numbers cs all h)
 
-pub length_numbers : (cs : List OpenCursor) → length (map number_in cs) ≡ length cs
+pub length_numbers : (cs : List OpenCursor) → length (map cursor_number cs) ≡ length cs
 length_numbers [] = refl
 length_numbers (c ∷ cs) = ap suc (length_numbers cs)
 
@@ -73,18 +73,18 @@ open_filter x (c ∷ cs) (a ∷ all) (here, h) =
     (subst (AreOpen (c ∷ filter keep cs)) (sym (cond-true (keeps a) (a ∷ filter keeps all) (filter keeps all) (ap not (ne_eqb a.number x e)))) (here, rest)))
     (cases_eq a.number x)
 
-pub numbers_filter : (x : ℕ) (cs : List OpenCursor) → map number_in (filter (λ c. not (c.number == x)) cs) ≡ filter (λ n. not (n == x)) (map number_in cs)
+pub numbers_filter : (x : ℕ) (cs : List OpenCursor) → map cursor_number (filter (λ c. not (c.number == x)) cs) ≡ filter (λ n. not (n == x)) (map cursor_number cs)
 numbers_filter x [] = refl
 numbers_filter x (c ∷ cs) =
     let keep = λ (d : OpenCursor). not (d.number == x) in
     let keeps = λ (n : ℕ). not (n == x) in
     ⊎_elim
-    (λ e. ap (map number_in) (cond-false (keep c) (c ∷ filter keep cs) (filter keep cs) (ap not (eq-eqb c.number x e)))
+    (λ e. ap (map cursor_number) (cond-false (keep c) (c ∷ filter keep cs) (filter keep cs) (ap not (eq-eqb c.number x e)))
     ∙ numbers_filter x cs
-    ∙ sym (cond-false (keeps c.number) (c.number ∷ filter keeps (map number_in cs)) (filter keeps (map number_in cs)) (ap not (eq-eqb c.number x e))))
-    (λ e. ap (map number_in) (cond-true (keep c) (c ∷ filter keep cs) (filter keep cs) (ap not (ne_eqb c.number x e)))
+    ∙ sym (cond-false (keeps c.number) (c.number ∷ filter keeps (map cursor_number cs)) (filter keeps (map cursor_number cs)) (ap not (eq-eqb c.number x e))))
+    (λ e. ap (map cursor_number) (cond-true (keep c) (c ∷ filter keep cs) (filter keep cs) (ap not (ne_eqb c.number x e)))
     ∙ ap (λ ns. c.number ∷ ns) (numbers_filter x cs)
-    ∙ sym (cond-true (keeps c.number) (c.number ∷ filter keeps (map number_in cs)) (filter keeps (map number_in cs)) (ap not (ne_eqb c.number x e))))
+    ∙ sym (cond-true (keeps c.number) (c.number ∷ filter keeps (map cursor_number cs)) (filter keeps (map cursor_number cs)) (ap not (ne_eqb c.number x e))))
     (cases_eq c.number x)
 
 -- ---- no cursor has the number
@@ -120,18 +120,18 @@ pairs_head n ns h k d l = h 0 (suc k) d (omega arith) (omega (arith, l))
 pairs_tail : (n : ℕ) (ns : List ℕ) → AllPairs (λ a b. a ≢ b) (n ∷ ns) → AllPairs (λ a b. a ≢ b) ns
 pairs_tail n ns h i j d lt l = h (suc i) (suc j) d (omega (arith, lt)) (omega (arith, l))
 
-number_at : (cs : List OpenCursor) (k : ℕ) (c : OpenCursor) → k < length cs → get_or (map number_in cs) k c.number ≡ (get_or cs k c).number
+number_at : (cs : List OpenCursor) (k : ℕ) (c : OpenCursor) → k < length cs → get_or (map cursor_number cs) k c.number ≡ (get_or cs k c).number
 number_at [] k c l = absurd (omega (arith, l))
 number_at (d ∷ cs) zero c l = refl
 number_at (d ∷ cs) (suc k) c l = number_at cs k c (omega (arith, l))
 
 -- those behind a cursor have other numbers
-others_behind : (c : OpenCursor) (cs : List OpenCursor) → AllPairs (λ a b. a ≢ b) (map number_in (c ∷ cs)) → All (λ (d : OpenCursor). d.number ≢ c.number) cs
+others_behind : (c : OpenCursor) (cs : List OpenCursor) → AllPairs (λ a b. a ≢ b) (map cursor_number (c ∷ cs)) → All (λ (d : OpenCursor). d.number ≢ c.number) cs
 others_behind c cs h k d l e =
-    pairs_head c.number (map number_in cs) h k d.number (omega (arith, l, length_numbers cs)) (sym (number_at cs k d l ∙ e))
+    pairs_head c.number (map cursor_number cs) h k d.number (omega (arith, l, length_numbers cs)) (sym (number_at cs k d l ∙ e))
 
 -- the first has another number than one behind it
-other_first : (x i : ℕ) (c : OpenCursor) (cs : List OpenCursor) (d : OpenCursor) → AllPairs (λ a b. a ≢ b) (map number_in (c ∷ cs)) → IsAt x cs i d → c.number ≢ x
+other_first : (x i : ℕ) (c : OpenCursor) (cs : List OpenCursor) (d : OpenCursor) → AllPairs (λ a b. a ≢ b) (map cursor_number (c ∷ cs)) → IsAt x cs i d → c.number ≢ x
 other_first x i c cs d h at e = others_behind c cs h i d at.within (at.number ∙ sym e)
 
 back : (x i : ℕ) (c : OpenCursor) (cs : List OpenCursor) (d : OpenCursor) → IsAt x (c ∷ cs) (suc i) d → IsAt x cs i d
@@ -144,7 +144,7 @@ record IsLeftAt (x count : ℕ) (cs : List OpenCursor) (i : ℕ) (d new : OpenCu
   are : AreLeft (get_or cs i d).cursor left
   then : AreLeft new.cursor (drop count left) → AreOpen (set cs i new) (with_fetched x count all)
 
-left_at : (x count : ℕ) (cs : List OpenCursor) (i : ℕ) (d new : OpenCursor) (all : List OpenAnswers) → AllPairs (λ a b. a ≢ b) (map number_in cs) → IsAt x cs i d
+left_at : (x count : ℕ) (cs : List OpenCursor) (i : ℕ) (d new : OpenCursor) (all : List OpenAnswers) → AllPairs (λ a b. a ≢ b) (map cursor_number cs) → IsAt x cs i d
     → new.number ≡ (get_or cs i d).number → AreOpen cs all → IsLeftAt x count cs i d new all
 left_at x count [] i d new all pairs at same h = absurd (let l = at.within in omega (arith, l))
 left_at x count (c ∷ cs) i d new [] pairs at same h = absurd h
@@ -166,7 +166,7 @@ left_at x count (c ∷ cs) (suc i) d new (a ∷ all) pairs at same (here, h) =
     let other = other_first x i c cs d pairs at_rest in
     let less : OpenAnswers = record { number = a.number; left = drop count a.left } in
     let miss : (a.number == x) ≡ false = ne_eqb a.number x (λ e. other (here.number ∙ e)) in
-    let rest = left_at x count cs i d new all (pairs_tail c.number (map number_in cs) pairs) at_rest same h in
+    let rest = left_at x count cs i d new all (pairs_tail c.number (map cursor_number cs) pairs) at_rest same h in
     record {
       left = rest.left;
       finds = cond-false (a.number == x) (Some a.left) (left_of x all) miss ∙ rest.finds;
@@ -178,7 +178,7 @@ left_at x count (c ∷ cs) (suc i) d new (a ∷ all) pairs at same (here, h) =
 abbrev pub IsTold : ℕ → Page → CursorView → CursorView → Type 0
 IsTold count page old new = (left : List Document) → AreLeft old left → IsPageOf count left page × AreLeft new (drop count left)
 
-pub fetch_some : (x count : ℕ) (cs : List OpenCursor) (i : ℕ) (d new : OpenCursor) (page : Page) → AllPairs (λ a b. a ≢ b) (map number_in cs) → IsAt x cs i d
+pub fetch_some : (x count : ℕ) (cs : List OpenCursor) (i : ℕ) (d new : OpenCursor) (page : Page) → AllPairs (λ a b. a ≢ b) (map cursor_number cs) → IsAt x cs i d
     → new.number ≡ (get_or cs i d).number → IsTold count page (get_or cs i d).cursor new.cursor → IsFetch x count cs (set cs i new) (Some page)
 fetch_some x count cs i d new page pairs at same is = record {
   page = λ all h. let l = left_at x count cs i d new all pairs at same h in subst (λ o. IsFetched count o (Some page)) (sym l.finds) (is l.left l.are).0;
@@ -196,13 +196,13 @@ fetch_none x count cs none = record {
 abbrev pub cursor_work : OpenCursor → ℕ
 cursor_work c = locations c.cursor.snapshot.cuts + lists c.cursor.snapshot.cuts
 
-pub work_at : (x : ℕ) (cs : List OpenCursor) (i : ℕ) (d : OpenCursor) → AllPairs (λ a b. a ≢ b) (map number_in cs) → IsAt x cs i d → work_of x cs ≡ cursor_work (get_or cs i d)
+pub work_at : (x : ℕ) (cs : List OpenCursor) (i : ℕ) (d : OpenCursor) → AllPairs (λ a b. a ≢ b) (map cursor_number cs) → IsAt x cs i d → work_of x cs ≡ cursor_work (get_or cs i d)
 work_at x [] i d pairs at = absurd (let l = at.within in omega (arith, l))
 work_at x (c ∷ cs) zero d pairs at = cond-true (c.number == x) (cursor_work c) (work_of x cs) (eq-eqb c.number x at.number)
 work_at x (c ∷ cs) (suc i) d pairs at =
     let at_rest = back x i c cs d at in
     cond-false (c.number == x) (cursor_work c) (work_of x cs) (ne_eqb c.number x (other_first x i c cs d pairs at_rest))
-    ∙ work_at x cs i d (pairs_tail c.number (map number_in cs) pairs) at_rest
+    ∙ work_at x cs i d (pairs_tail c.number (map cursor_number cs) pairs) at_rest
 
 -- ---- a page
 
@@ -248,7 +248,7 @@ page_documents old new count page before after left plan snapshot is h =
 
 -- ---- the calls
 
-pub any_number : (x : ℕ) (cs : List OpenCursor) → list_any (λ c. c.number == x) cs ≡ is_taken x (map number_in cs)
+pub any_number : (x : ℕ) (cs : List OpenCursor) → list_any (λ c. c.number == x) cs ≡ is_taken x (map cursor_number cs)
 any_number x [] = refl
 any_number x (c ∷ cs) = ap (λ b. (c.number == x) || b) (any_number x cs)
 
@@ -256,15 +256,15 @@ pub had_is : (x : ℕ) (held cs : List OpenCursor) (all : List OpenAnswers) (had
     → IsTrue had ↔ IsSome (left_of x all)
 had_is x held cs all had found same h =
     let is : had ≡ is_taken x (map number_of all) =
-    found ∙ any_number x held ∙ ap (λ (l : List OpenCursor). is_taken x (map number_in l)) same ∙ ap (is_taken x) (same_numbers cs all h) in
+    found ∙ any_number x held ∙ ap (λ (l : List OpenCursor). is_taken x (map cursor_number l)) same ∙ ap (is_taken x) (same_numbers cs all h) in
     (λ yes. left_taken x all (sym is ∙ yes), λ some. is ∙ taken_left x all some)
 
-pub numbers_kept : (x : ℕ) (cs new : List OpenCursor) → new ≡ filter (λ c. not (c.number == x)) cs → AreNumbers (map number_in cs) → AreNumbers (map number_in new)
+pub numbers_kept : (x : ℕ) (cs new : List OpenCursor) → new ≡ filter (λ c. not (c.number == x)) cs → AreNumbers (map cursor_number cs) → AreNumbers (map cursor_number new)
 numbers_kept x cs new kept h =
-    subst AreNumbers (sym (ap (map number_in) kept ∙ numbers_filter x cs))
+    subst AreNumbers (sym (ap (map cursor_number) kept ∙ numbers_filter x cs))
     (record {
-      within = All-filter (λ n. not (n == x)) (λ n. (1 ≤ n) × (n ≤ CURSORS)) (map number_in cs) h.within;
-      different = AllPairs-filter (λ a b. a ≢ b) (λ n. not (n == x)) (map number_in cs) h.different;
+      within = All-filter (λ n. not (n == x)) (λ n. (1 ≤ n) × (n ≤ CURSORS)) (map cursor_number cs) h.within;
+      different = AllPairs-filter (λ a b. a ≢ b) (λ n. not (n == x)) (map cursor_number cs) h.different;
     })
 
 pub open_kept : (x : ℕ) (held cs new : List OpenCursor) (all : List OpenAnswers) → new ≡ filter (λ c. not (c.number == x)) held → held ≡ cs → AreOpen cs all
@@ -274,21 +274,21 @@ open_kept x held cs new all kept same h =
 
 -- what the free number of cursors is
 abbrev pub free_in : List OpenCursor → ℕ
-free_in cs = first_free (length cs) 1 (map number_in cs)
+free_in cs = first_free (length cs) 1 (map cursor_number cs)
 
 pub free_range : (cs : List OpenCursor) (n : ℕ) → n ≡ free_in cs → length cs < CURSORS → (1 ≤ n) × (n ≤ CURSORS)
 free_range cs n is few =
-    let ns = map number_in cs in
+    let ns = map cursor_number cs in
     let same : first_free (length ns) 1 ns ≡ free_in cs = ap (λ k. first_free k 1 ns) (length_numbers cs) in
     let low = free_from_one ns in let high = free_small ns in
     (omega (arith, is, same, low), omega (arith, is, same, high, few, length_numbers cs))
 
-pub numbers_opened : (cs new : List OpenCursor) (c : OpenCursor) → new ≡ cs ++ c ∷ [] → c.number ≡ free_in cs → length cs < CURSORS → AreNumbers (map number_in cs)
-    → AreNumbers (map number_in new)
+pub numbers_opened : (cs new : List OpenCursor) (c : OpenCursor) → new ≡ cs ++ c ∷ [] → c.number ≡ free_in cs → length cs < CURSORS → AreNumbers (map cursor_number cs)
+    → AreNumbers (map cursor_number new)
 numbers_opened cs new c pushed is few h =
-    let ns = map number_in cs in
+    let ns = map cursor_number cs in
     let number : first_free (length ns) 1 ns ≡ c.number = ap (λ k. first_free k 1 ns) (length_numbers cs) ∙ sym is in
-    subst AreNumbers (sym (ap (map number_in) pushed ∙ map_push number_in cs c))
+    subst AreNumbers (sym (ap (map cursor_number) pushed ∙ map_push cursor_number cs c))
     (subst (λ n. AreNumbers (ns ++ n ∷ [])) number (numbers_push ns h (omega (arith, few, length_numbers cs))))
 
 pub opened_is : (cs new : List OpenCursor) (c : OpenCursor) (all : List OpenAnswers) (documents : List Document) → new ≡ cs ++ c ∷ [] → c.number ≡ free_in cs
@@ -299,9 +299,9 @@ opened_is cs new c all documents pushed is h left =
 
 -- a number that is taken leads on to the next one
 pub free_step : (size tried free : ℕ) (held : List OpenCursor) → tried < size → list_any (λ c. c.number == tried + 1) held ≡ true
-    → first_free (size - tried) (tried + 1) (map number_in held) ≡ free → first_free (size - (tried + 1)) (tried + 1 + 1) (map number_in held) ≡ free
+    → first_free (size - tried) (tried + 1) (map cursor_number held) ≡ free → first_free (size - (tried + 1)) (tried + 1 + 1) (map cursor_number held) ≡ free
 free_step size tried free held lt taken h =
-    let ns = map number_in held in
+    let ns = map cursor_number held in
     let rest = first_free (size - (tried + 1)) (tried + 1 + 1) ns in
     let more : size - tried ≡ suc (size - (tried + 1)) = omega arith in
     sym (cond-true (is_taken (tried + 1) ns) rest (tried + 1) (sym (any_number (tried + 1) held) ∙ taken))
@@ -309,9 +309,9 @@ free_step size tried free held lt taken h =
 
 -- a number that is not taken is the free one
 pub free_here : (size tried free : ℕ) (held : List OpenCursor) → tried < size → list_any (λ c. c.number == tried + 1) held ≡ false
-    → first_free (size - tried) (tried + 1) (map number_in held) ≡ free → tried + 1 ≡ free
+    → first_free (size - tried) (tried + 1) (map cursor_number held) ≡ free → tried + 1 ≡ free
 free_here size tried free held lt none h =
-    let ns = map number_in held in
+    let ns = map cursor_number held in
     let rest = first_free (size - (tried + 1)) (tried + 1 + 1) ns in
     let more : size - tried ≡ suc (size - (tried + 1)) = omega arith in
     sym (cond-false (is_taken (tried + 1) ns) rest (tried + 1) (sym (any_number (tried + 1) held) ∙ none))

@@ -95,7 +95,7 @@ pub record IsLeadOf (ends : List (List (List ℕ))) (words negated : List (List 
   pub moves : (after + new.moves ≤ before) ⊎ AreFewMoves ends words negated before (after + new.moves)
 
 -- a reader over a snapshot of the tests of a conjunction was made, which the word with the fewest locations leads: its moves are
--- at most four for each list, and two more for each location of each word
+-- for each list at most four and twice the locations of any word
 pub record IsLedOver (c : Conjunction) (v : View) (new : PlanView) (from before after : ℕ) : Type 0 where
   pub stands : IsReading new
   pub reads : (space : List Placed) → Shows space v → new.list ≡ ends_having (ends_of space) (map (list_of space) c.words) (map (list_of space) c.negated)
@@ -105,7 +105,7 @@ pub record IsLedOver (c : Conjunction) (v : View) (new : PlanView) (from before 
   pub lazy : (place : ℕ) → after + new.left ≤ before + lists v.cuts + locations_below place v.cuts + count_from new.all place
   pub moves : (space : List Placed) → Shows space v → All (λ word. after + new.moves ≤ before + lists v.cuts * (2 * length (list_of space word) + 4)) c.words
 
--- where there is a conjunction, the steps are at most four for each list and two more for each location of any of its words
+-- where there is a conjunction, the steps are for each list at most four and twice the locations of any of its words
 abbrev pub AreByRarest : Option Conjunction → View → ℕ → ℕ → Type 0
 AreByRarest found v before after = (space : List Placed) (c : Conjunction) → Shows space v → found ≡ Some c
     → All (λ word. after ≤ before + lists v.cuts * (2 * length (list_of space word) + 4)) c.words

@@ -12,8 +12,8 @@ use Rattle.alta_machine.specs.declared.cursors.TheConstants.{CURSORS}
 use Rattle.alta_search.specs.declared.page.Page.{Page}
 use Rattle.alta_machine.specs.OpenAnswers.{OpenAnswers, left_of, with_fetched}
 
-abbrev pub number_in : OpenCursor → ℕ
-number_in c = c.number
+abbrev pub cursor_number : OpenCursor → ℕ
+cursor_number c = c.number
 
 -- the numbers of open cursors: each is from 1 to the greatest number of open cursors, and no two are the same
 pub record AreNumbers (numbers : List ℕ) : Type 0 where

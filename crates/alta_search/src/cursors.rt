@@ -3,7 +3,7 @@ ghost use Rattle.std.specs.Prelude.{◌≡◌, ◌≢◌, ◌↔◌, ℕ, ◌+�
 ghost use Rattle.std.specs.List.{list_any};
 ghost use Rattle.alta_machine.specs.declared.document.Document.{Document};
 ghost use Rattle.alta_machine.specs.OpenAnswers.{OpenAnswers, first_free, least_free, left_of, with_opened, without_cursor};
-ghost use Rattle.alta_search.specs.Open.{AreLeft, AreOpen, IsPageOf, IsFetch, number_in, work_of};
+ghost use Rattle.alta_search.specs.Open.{AreLeft, AreOpen, IsPageOf, IsFetch, cursor_number, work_of};
 ghost use Rattle.alta_search.specs.Plans.{lists, locations};
 
 use crate::cursor::Cursor;
@@ -35,7 +35,7 @@ impl Model for Cursors {
     ghost use Rattle.std.specs.Prelude.{List, map};
     ghost use Rattle.alta_compile.specs.contracts.plan.Plan as e;
     ghost use Rattle.alta_search.specs.declared.cursors.OpenCursor.{OpenCursor};
-    ghost use Rattle.alta_search.specs.Open.{AreNumbers, number_in};
+    ghost use Rattle.alta_search.specs.Open.{AreNumbers, cursor_number};
 
     ghost Value = { List OpenCursor };
 
@@ -43,7 +43,7 @@ impl Model for Cursors {
 
     ghost view = { λ c. c.cursors.items };
 
-    ghost invariant = { λ c. AreNumbers (map number_in c.cursors.items) };
+    ghost invariant = { λ c. AreNumbers (map cursor_number c.cursors.items) };
 }
 
 impl Cursors {
@@ -112,7 +112,7 @@ impl Cursors {
 /// The least number from 1 on that none of these cursors has.
 fn free_number(cursors: &[OpenCursor]) -> u64
     requires { length cursors.now < CURSORS }
-    ensures { result ≡ first_free (length cursors.now) 1 (map number_in cursors.now) }
+    ensures { result ≡ first_free (length cursors.now) 1 (map cursor_number cursors.now) }
 {
     for tried in 0..cursors.len() as u64 {
         if !has(cursors, tried + 1) {
@@ -165,9 +165,9 @@ fn fetch_from<L: Ledger>(
     count: u64,
     steps: &mut Steps<L>,
 ) -> Result<Option<Page>, AllocError>
-    requires { AllPairs (λ a b. a ≢ b) (map number_in cursors.old) }
+    requires { AllPairs (λ a b. a ≢ b) (map cursor_number cursors.old) }
     ensures fetched { IfOk result (IsFetch number count cursors.old cursors.new) }
-    ensures numbers { map number_in cursors.new ≡ map number_in cursors.old }
+    ensures numbers { map cursor_number cursors.new ≡ map cursor_number cursors.old }
     ensures most { steps.new ≤ steps.old + work_of number cursors.old }
     ensures kept { OnErr result (cursors.new ≡ cursors.old) }
 {

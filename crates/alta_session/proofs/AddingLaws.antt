@@ -8,7 +8,7 @@ use Rattle.alta_codec.specs.Name.{IsName}
 use Rattle.alta_codec.specs.Bytes.{Lacks}
 use Rattle.alta_disk.specs.Disk.{DiskState, LeavesOnly}
 use Rattle.alta_machine.specs.declared.document.State.{State}
-use Rattle.alta_machine.specs.Command.{Reads, adds}
+use Rattle.alta_machine.specs.Command.{ReadsLine, adds}
 use Rattle.alta_machine.specs.LineFaults.{IsText}
 use Rattle.alta_codec.proofs.NameLaws.{name_is, name_is_not}
 use Rattle.alta_machine.specs.Machine.{adding, put_as, IsRefusal}
@@ -101,7 +101,7 @@ free_any : (xs : List ℕ) → Lacks 10 xs → list_any (λ b. b == 10) xs ≡ f
 free_any [] free = refl
 free_any (x ∷ xs) free = ap (λ (b : Bool). b || list_any (λ b. b == 10) xs) (not_ten x (All-head IsOther x xs free)) ∙ free_any xs (All-tail IsOther x xs free)
 
-pub line_is_document : (line name title body : List ℕ) → Lacks 10 line → IsText line → Reads line (adds name title body) → IsName name → IsDocument name title body
+pub line_is_document : (line name title body : List ℕ) → Lacks 10 line → IsText line → ReadsLine line (adds name title body) → IsName name → IsDocument name title body
 line_is_document line name title body free text reads named =
     let spells : codes "add " ++ (name ++ 9 ∷ (title ++ 9 ∷ body)) ≡ line = reads.spells in
     let all : Lacks 10 (codes "add " ++ (name ++ 9 ∷ (title ++ 9 ∷ body))) = subst (Lacks 10) (sym spells) free in

@@ -21,7 +21,7 @@ use Rattle.alta_session.specs.Fullness.{IsFullOnly, IsInterrupted, IsFull}
 use Rattle.alta_machine.specs.Machine.{Machine, started_at, machine_after, replies}
 use Rattle.alta_session.specs.Progress.{StopsWithin, StopsWithinFrom}
 use Rattle.alta_session.specs.Run.{KeepsDisk}
-use Rattle.alta_session.specs.Status.{EndsInit, EndsLine, StopsLine, IsOpened, IsUnmade, Completes, status_for}
+use Rattle.alta_session.specs.Status.{EndsInit, EndsLine, StopsLine, EndsOpened, IsUnmade, Completes, status_for}
 use Rattle.alta_session.specs.Tasks.{IsBy, IsWorked, worked_lines}
 use Rattle.alta_session.specs.declared.session.Session.{Session}
 use Rattle.alta_session.specs.declared.status.Status.{Status}
@@ -54,11 +54,11 @@ given_behind_all m xs ys k =
     ap (λ (l : List (List ℕ)). take (length xs + k) l) (replies_append m xs ys) ∙ ap (λ (n : ℕ). take (n + k) (first ++ later)) (sym (length_replies m xs)) ∙ take-append-add first later k in
     sym (ap concat (ap (λ (l : List (List ℕ)). drop (length xs) l) taken ∙ drop_at first (take k later) (length xs) (length_replies m xs)))
 
-ends_opened : (status : Status) → EndsLine status → ((place : ℕ) → status ≡ Damaged place → ⊥) → IsOpened status
+ends_opened : (status : Status) → EndsLine status → ((place : ℕ) → status ≡ Damaged place → ⊥) → EndsOpened status
 ends_opened status ends whole = record { rooted = running_rooted status (inr (inr (inr ends))); whole = whole }
 
 -- nothing was answered
-interrupted_opened : (status : Status) → IsInterrupted status → IsOpened status
+interrupted_opened : (status : Status) → IsInterrupted status → EndsOpened status
 interrupted_opened status (inl is) = record { rooted = λ other. cc; whole = λ place other. cc }
 interrupted_opened status (inr (inl is)) = record { rooted = λ other. cc; whole = λ place other. cc }
 interrupted_opened status (inr (inr is)) = record { rooted = λ other. cc; whole = λ place other. cc }
@@ -270,7 +270,7 @@ start_interrupted r e is (inl memory) = inl (is ∙ ap status_for memory)
 start_interrupted r e is (inr disk) = inr (inl (is ∙ ap status_for disk))
 
 -- where no call fails, there was no index, and no damage is found
-pub demo_completes : (status : Status) (gives disk : Type 0) → EndsDemo status → IsOpened status → (status ≡ Exists → ⊥) → (status ≡ GiveFault → gives) → (status ≡ DiskFault → disk) → (gives → ⊥) → (disk → ⊥) → Completes status
+pub demo_completes : (status : Status) (gives disk : Type 0) → EndsDemo status → EndsOpened status → (status ≡ Exists → ⊥) → (status ≡ GiveFault → gives) → (status ≡ DiskFault → disk) → (gives → ⊥) → (disk → ⊥) → Completes status
 demo_completes status gives disk (inl (inl is)) whole never g d no_give no_disk = inl is
 demo_completes status gives disk (inl (inr (inl is))) whole never g d no_give no_disk = absurd (no_disk (d is))
 demo_completes status gives disk (inl (inr (inr (inl is)))) whole never g d no_give no_disk = absurd (never is)

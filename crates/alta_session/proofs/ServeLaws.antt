@@ -17,7 +17,7 @@ use Rattle.alta_session.specs.Fullness.{IsFullExactly}
 use Rattle.alta_machine.specs.Machine.{Machine, started_at}
 use Rattle.alta_session.specs.Progress.{StandsAfterSome}
 use Rattle.alta_replies.specs.Loading.{newest_in}
-use Rattle.alta_session.specs.Run.{AnswersAll, KeepsAnswered, KeepsSince, Runs, RunsFrom, Serves, Keeps}
+use Rattle.alta_session.specs.Run.{AnswersAll, KeepsAnswered, KeepsSince, Runs, RunsFrom, Serves, KeepsPrefix}
 use Rattle.alta_session.specs.Spending.{OnlyReads, Spends, lines_bytes, newest_of_opened, opening_bytes}
 use Rattle.alta_session.specs.Tasks.{IsBy, IsFirst, IsOn, IsWorked, worked_lines}
 use Rattle.alta_session.specs.declared.session.Session.{Session}
@@ -32,7 +32,7 @@ use Rattle.alta_meaning.specs.Opened.{Opened, IsOpened}
 use Rattle.alta_memlevel.proofs.One.{one_content}
 use Rattle.alta_root.specs.Slots.{Counts}
 use Rattle.alta_root.specs.declared.root.Root.{Root}
-use Rattle.alta_store.specs.Agreement.{IsJobIn, Keeps as StoreKeeps}
+use Rattle.alta_store.specs.Agreement.{IsJobIn, Keeps}
 use Rattle.alta_table.specs.Tables.{Tables}
 use Rattle.alta_store.proofs.Agreements.{opened_of}
 use Rattle.alta_store.proofs.Holdings.{content_bytes, well_held}
@@ -124,7 +124,7 @@ held_of s image stands = (
 )
 
 -- by the levels and newest documents of what was opened
-spends_opened : (d e : DiskState) (session : Session) (m : Machine) (lines : List (List ℕ)) (o : Opened) → StoreKeeps session.store o → Spends d e session m lines → All OnlyReads lines → e.taken ≤ d.taken + lines_bytes o.levels (newest_of_opened o) m lines
+spends_opened : (d e : DiskState) (session : Session) (m : Machine) (lines : List (List ℕ)) (o : Opened) → Keeps session.store o → Spends d e session m lines → All OnlyReads lines → e.taken ≤ d.taken + lines_bytes o.levels (newest_of_opened o) m lines
 spends_opened d e session m lines o keeps spends all =
     let newest : newest_in session.store ≡ newest_of_opened o = one_content (newest_of o.root o.entries) (newest_in session.store) keeps.follows.content in
     let P : List Tables → Type 0 = λ levels. e.taken ≤ d.taken + lines_bytes levels (newest_in session.store) m lines in
@@ -133,7 +133,7 @@ spends_opened d e session m lines o keeps spends all =
 
 -- it was opened, and then it ran
 pub serves_opened : (tells : Type 0) (limit : ℕ) (told told_now : Option (List Event)) (left left_now : Option (List ℕ)) (d m e : DiskState) (session : Session) (status : Status) → IsLawful tells d → IsLawful tells m → session.store.job ≡ None → Passes Same d m → ((s : State) → tells → StandsFor s d.content → AgreesOn tells m session (started_at s)) → (tells → m.content ≡ d.content) → m.limit ≡ d.limit
-    → ((o : Opened) → tells → IsOpened o d.content → StoreKeeps session.store o) → (tells → (slot : Slot) → (root : Root) → Counts slot root d.content → m.taken ≤ d.taken + opening_bytes root d.content)
+    → ((o : Opened) → tells → IsOpened o d.content → Keeps session.store o) → (tells → (slot : Slot) → (root : Root) → Counts slot root d.content → m.taken ≤ d.taken + opening_bytes root d.content)
     → Runs tells limit told told_now left left_now m e session status → Serves tells limit told told_now left left_now d e status
 serves_opened tells limit told told_now left left_now d m e session status lawful lawful_now none passes agrees same same_limit keeps read runs = record {
   run = runs.run;
@@ -150,14 +150,14 @@ serves_opened tells limit told told_now left left_now d m e session status lawfu
       let held = held_of s d.content stands in
       ((runs.each (started_at s) tell (agrees s tell stands)).levels held.0 (opened_by tells d m session held.0 lawful_now tell none (same tell) held.1) all).1;
   keeps = λ s tell stands.
-      let one : Keeps limit (started_at s) runs.run m e = (runs.each (started_at s) tell (agrees s tell (stands.content tell))).keeps in
+      let one : KeepsPrefix limit (started_at s) runs.run m e = (runs.each (started_at s) tell (agrees s tell (stands.content tell))).keeps in
       let lines : List (List ℕ) = lines_in limit runs.run in
       record {
         now = one.now;
         ever = leaves_then d m e (StandsAfterSome (started_at s) lines) (opens_only tells d m (StandsAfterSome (started_at s) lines) lawful passes (λ c here. some_none (started_at s) lines c (stands.images c here))) one.ever;
       };
   reopened = λ s tell stands.
-      let one : Keeps limit (started_at s) runs.run m e = (runs.each (started_at s) tell (agrees s tell stands)).keeps in
+      let one : KeepsPrefix limit (started_at s) runs.run m e = (runs.each (started_at s) tell (agrees s tell stands)).keeps in
       inr (record {
         moment = m.clock;
         not_before = passes.later;

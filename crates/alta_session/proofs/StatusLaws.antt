@@ -1,6 +1,6 @@
 -- Laws of statuses.
 use Rattle.std.proofs.Common.{◌≡◌, ◌≢◌, ◌⊎◌, ℕ, inl, inr, refl, ap, sym, subst, ◌∙◌, Result, Err}
-use Rattle.alta_session.specs.Status.{StopsLine, EndsLine, EndsRunning, EndsRun, EndsInit, IsOpened, Completes, Yields, status_for}
+use Rattle.alta_session.specs.Status.{StopsLine, EndsLine, EndsRunning, EndsRun, EndsInit, EndsOpened, Completes, Yields, status_for}
 use Rattle.alta_session.specs.declared.status.Status.{Status}
 use Rattle.alta_session.specs.declared.status.Status.TheVariants.{Done, Usage, DiskFault, TakeFault, GiveFault, Memory, Damaged, NoRoot, Full, TooLong, Exists}
 use Rattle.alta_store.specs.Answers.{IsOutside, AnswersFault}
@@ -234,7 +234,7 @@ answers_status r e fault is result was (inl same) = let f : e ≡ fault = cc in 
 answers_status r e fault is result was (inr (inl same)) = let f : e ≡ StoreMemory = cc in inr (inl (is ∙ ap status_for f))
 answers_status r e fault is result was (inr (inr same)) = let f : e ≡ StoreDisk = cc in inr (inr (is ∙ ap status_for f))
 
-pub outside_opened : (r : Status) (e : StoreFault) → r ≡ status_for e → IsOutside e → IsOpened r
+pub outside_opened : (r : Status) (e : StoreFault) → r ≡ status_for e → IsOutside e → EndsOpened r
 outside_opened r e is (inl same) = let m : r ≡ Memory = is ∙ ap status_for same in record { rooted = λ other. cc; whole = λ place other. cc }
 outside_opened r e is (inr same) = let m : r ≡ DiskFault = is ∙ ap status_for same in record { rooted = λ other. cc; whole = λ place other. cc }
 
@@ -243,7 +243,7 @@ outside_completes r e rose is (inl same) cause none = inr (inr (inl (is ∙ ap s
 outside_completes r e rose is (inr same) cause none = absurd (none (cause same))
 
 -- what the making of an index never ends with
-pub init_opened : (status : Status) → EndsInit status → IsOpened status
+pub init_opened : (status : Status) → EndsInit status → EndsOpened status
 init_opened status (inl is) = record { rooted = λ other. cc; whole = λ place other. cc }
 init_opened status (inr (inl is)) = record { rooted = λ other. cc; whole = λ place other. cc }
 init_opened status (inr (inr (inl is))) = record { rooted = λ other. cc; whole = λ place other. cc }

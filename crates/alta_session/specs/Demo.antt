@@ -16,7 +16,7 @@ use Rattle.alta_session.specs.Fullness.{Overflows, IsInterrupted, IsFull}
 use Rattle.alta_machine.specs.Machine.{Machine, started_at, machine_after, replies}
 use Rattle.alta_session.specs.Progress.{StopsWithin}
 use Rattle.alta_session.specs.Run.{KeepsDisk}
-use Rattle.alta_session.specs.Status.{EndsInit, EndsLine, IsOpened, IsUnmade}
+use Rattle.alta_session.specs.Status.{EndsInit, EndsLine, EndsOpened, IsUnmade}
 use Rattle.alta_session.specs.Tasks.{IsDone, worked_lines}
 use Rattle.alta_session.specs.declared.session.Session.{Session}
 use Rattle.alta_session.specs.declared.status.Status.{Status}
@@ -60,7 +60,7 @@ pub record ReportsFrom (limit : ℕ) (held : Holding) (start : Machine) (lines a
   -- nothing is pending then
   pub levels : status ≡ Done → IsDone (worked_lines limit start held (lines ++ asked)) disk_now
   pub full : IsFullBehind limit held start lines asked given status
-  pub opened : IsOpened status
+  pub opened : EndsOpened status
 
 -- ---- all of it
 
@@ -76,7 +76,7 @@ pub record Demonstrates (tells : Type 0) (lines asked : List (List ℕ)) (told t
   pub gave : Gives told told_now given
   -- at every status
   pub begins : tells → IsPrefix given (concat (replies (machine_after (started_at empty_state) lines) asked))
-  pub opened : tells → IsOpened status
+  pub opened : tells → EndsOpened status
   -- where there is an index already, or the disk is too small for one
   pub exists : tells → status ≡ Exists → HasNoRoot disk.content → ⊥
   pub found : tells → (HasNoRoot disk.content → ⊥) → (status ≡ Exists) ⊎ (status ≡ DiskFault)

@@ -9,7 +9,7 @@ use Rattle.alta_meaning.specs.Broken.{IsBrokenAt}
 use Rattle.alta_meaning.specs.Standing.{StandsFor}
 use Rattle.alta_root.specs.Slots.{HasNoRoot}
 use Rattle.alta_session.specs.Run.{KeepsDisk}
-use Rattle.alta_session.specs.Status.{EndsInit, IsOpened, IsUnmade, Completes, Yields}
+use Rattle.alta_session.specs.Status.{EndsInit, EndsOpened, IsUnmade, Completes, Yields}
 use Rattle.alta_session.specs.declared.status.Status.{Status}
 use Rattle.alta_session.specs.declared.status.Status.TheVariants.{Done, Usage, DiskFault, TakeFault, GiveFault, Damaged, NoRoot, Full, Exists}
 use Rattle.alta_store.specs.Calls.{IsNarrow}
@@ -47,7 +47,7 @@ pub record HasReason {C : Type 0} (tells : Type 0) (take_faults give_faults : C 
   pub exists : tells → status ≡ Exists → ¬ (HasNoRoot disk.content)
   pub no_root : tells → status ≡ NoRoot → HasNoRoot disk.content
   -- where the content stands for a state, it is opened, and no damage is found
-  pub stands : (s : State) → tells → StandsFor s disk.content → IsOpened status
+  pub stands : (s : State) → tells → StandsFor s disk.content → EndsOpened status
   pub take_fault : status ≡ TakeFault → Rose (take_faults console) (take_faults console_now)
   pub give_fault : status ≡ GiveFault → Rose (give_faults console) (give_faults console_now)
   pub disk_fault : status ≡ DiskFault → Rose disk.faults disk_now.faults

@@ -44,7 +44,7 @@ pub record KeepsAnswered (limit : ℕ) (start : Machine) (run : List Event) (ima
   pub stands : StandsAfter answered start (lines_in limit run) image
 
 -- What the disk may hold after a run from this machine, and at any moment from one on.
-pub record Keeps (limit : ℕ) (start : Machine) (run : List Event) (disk disk_now : DiskState) : Type 0 where
+pub record KeepsPrefix (limit : ℕ) (start : Machine) (run : List Event) (disk disk_now : DiskState) : Type 0 where
   pub now : Each disk_now.images (KeepsAnswered limit start run)
   pub ever : LeavesOnly (StandsAfterSome start (lines_in limit run)) disk disk_now
 
@@ -63,7 +63,7 @@ pub record EndsPast (limit : ℕ) (run : List Event) : Type 0 where
 -- The run of an open session.
 pub record RunsFrom (limit : ℕ) (disk disk_now : DiskState) (session : Session) (run : List Event) (status : Status) (m : Machine) : Type 0 where
   pub replies : Replies limit m run status
-  pub keeps : Keeps limit m run disk disk_now
+  pub keeps : KeepsPrefix limit m run disk disk_now
   -- of what the content has at the start
   pub full : (held : Holding) → IsBy session disk.content held → IsFullExactly disk.limit held m (lines_in limit run) (given_in run) status
   -- where each line was answered
@@ -120,7 +120,7 @@ pub record Serves (tells : Type 0) (limit : ℕ) (told told_now : Option (List E
       → IsWorked (worked_lines disk.limit (started_at s) held (lines_in limit run)) (IsOn disk_now.content)
   pub settled : (s : State) → tells → StandsFor s disk.content → AnswersAll limit (started_at s) run → 0 < length (lines_in limit run) → Only disk_now.content disk_now.images
   -- where each image stands for a state
-  pub keeps : (s : State) → tells → Stands tells disk (StandsFor s) → Keeps limit (started_at s) run disk disk_now
+  pub keeps : (s : State) → tells → Stands tells disk (StandsFor s) → KeepsPrefix limit (started_at s) run disk disk_now
   -- where the content does, whatever was pending
   pub reopened : (s : State) → tells → StandsFor s disk.content → NotOpened disk disk_now run status ⊎ KeepsSince limit (started_at s) run disk disk_now
   -- and no line changes the index: the bytes that opening reads, and those of the lists that the lines load

@@ -48,7 +48,7 @@ abbrev pub Completes : Status → Type 0
 Completes status = (status ≡ Done) ⊎ ((status ≡ TooLong) ⊎ ((status ≡ Memory) ⊎ ((need gap : ℕ) × (status ≡ Full need gap))))
 
 -- neither that there is no index, nor that it is damaged
-pub record IsOpened (status : Status) : Type 0 where
+pub record EndsOpened (status : Status) : Type 0 where
   pub rooted : status ≢ NoRoot
   pub whole : (place : ℕ) → status ≢ Damaged place
 

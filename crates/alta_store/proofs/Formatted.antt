@@ -12,7 +12,8 @@ use Rattle.alta_disk.proofs.PartLaws.{part_torn, part_written}
 use Rattle.alta_journal.proofs.HalfLaws.{half_long, half_byte}
 use Rattle.alta_meaning.specs.Switching.{empty_root, IsFormatted}
 use Rattle.alta_root.specs.Places.{fields_at, gate_of}
-use Rattle.alta_root.specs.Root.{body_of, fields_of, wide_bytes}
+use Rattle.alta_layout.specs.Wide.{eight_bytes}
+use Rattle.alta_root.specs.Root.{body_of, fields_of}
 use Rattle.alta_root.specs.declared.places.TheConstants.{VERSION}
 use Rattle.alta_store.specs.Clearing.{AreZero, IsClear, empty_head}
 use Rattle.alta_journal.proofs.Steps.{take_sum}
@@ -55,7 +56,7 @@ abbrev empty_fields : List ℕ
 empty_fields = VERSION ∷ 0 ∷ 0 ∷ 0 ∷ 0 ∷ 0 ∷ 0 ∷ 0 ∷ 0 ∷ 0 ∷ 0 ∷ 0 ∷ 0 ∷ 0 ∷ 1 ∷ 0 ∷ 0 ∷ 0 ∷ 0 ∷ 0 ∷ 0 ∷ 0 ∷ 1 ∷ 0 ∷ 0 ∷ 0 ∷ 0 ∷ 0 ∷ 0 ∷ 0 ∷ 0 ∷ 0 ∷ 0 ∷ 0 ∷ 0 ∷ 0 ∷ 0 ∷ 0 ∷ 0 ∷ []
 
 spelled : fields_of empty_root ≡ empty_fields
-unfolding fields_of wide_bytes
+unfolding fields_of eight_bytes
 spelled = refl
 
 -- the body of the root without documents starts with the fields, and then there are zeros

@@ -1,5 +1,5 @@
 // The bytes of records, damage with its places, the end of a half, and what each stop leaves.
-ghost use Rattle.std.specs.Prelude.{◌+◌, ◌≤◌, length, IsTrue};
+ghost use Rattle.std.specs.Prelude.{◌≡◌, ◌+◌, ◌≤◌, length, IfOk, IsTrue};
 ghost use Rattle.alta_journal.specs.Entry.{KeepTexts, KeepsRules, Lacks};
 ghost use Rattle.alta_journal.specs.declared.places.TheConstants.{TEXTS_BYTES};
 
@@ -77,9 +77,16 @@ fn put_long_records(head: &mut [u8]) {
     }
 }
 
+// So many zeros, of which the length alone is told: who makes a disk's head would else have a list of two million to prove by.
+fn blank(alloc: Global, n: usize) -> Result<Vec<u8>, AllocError>
+    ensures { IfOk result (λ v. length v.items ≡ n) }
+{
+    zeros(alloc, n)
+}
+
 // A disk's head of zeros, with what a text says.
 fn head_with(alloc: Global, text: &str) -> Result<Vec<u8>, Fail> {
-    let mut head = zeros(alloc, HEAD_BYTES as usize)?;
+    let mut head = blank(alloc, HEAD_BYTES as usize)?;
     match text.strip_prefix("full, ") {
         Some(rest) => {
             put_long_records(&mut head);
@@ -214,7 +221,7 @@ fn told(alloc: Global, entry: &Entry) -> Result<String, AllocError> {
 
 // The entries of a half that has these bytes at its start, with their places, and the place of the tail.
 fn read_back(alloc: Global, slot: Slot, bytes: &[u8]) -> Result<String, Fail> {
-    let mut head = zeros(alloc, HEAD_BYTES as usize)?;
+    let mut head = blank(alloc, HEAD_BYTES as usize)?;
     put_bytes(&mut head, slot.half_start() as usize, bytes);
     let mut disk = MemoryDisk::new(alloc, head, 3_000_000, Vec::new(alloc));
     let Ok((entries, tail)) = replay(alloc, &mut disk, slot, 2) else {
@@ -234,7 +241,7 @@ fn read_back(alloc: Global, slot: Slot, bytes: &[u8]) -> Result<String, Fail> {
 fn written(alloc: Global, slot: Slot, entry: &Entry) -> Result<(u64, u64, Vec<u8>), Fail>
     requires { KeepsRules entry.now }
 {
-    let content = zeros(alloc, HEAD_BYTES as usize)?;
+    let content = blank(alloc, HEAD_BYTES as usize)?;
     let mut disk = MemoryDisk::new(alloc, content, HEAD_BYTES, Vec::new(alloc));
     let Ok(mut tail) = close_half(&mut disk, slot) else {
         return Err("no format".into());
@@ -320,7 +327,7 @@ fn appended_at_end(
     }
     let record = ready(alloc, &Entry::Delete { number: 1 })?;
     let place = slot.half_start() + HALF_BYTES - back;
-    let content = zeros(alloc, HEAD_BYTES as usize)?;
+    let content = blank(alloc, HEAD_BYTES as usize)?;
     let gate = content[place as usize];
     assert!(rt; gate != GATE_OPEN);
     let mut disk = MemoryDisk::new(alloc, content, HEAD_BYTES, Vec::new(alloc));
@@ -338,7 +345,7 @@ fn entries_left(
 ) -> Result<(Result<(), JournalFault>, [usize; 4]), AllocError> {
     let mut fail = Vec::with_capacity(alloc, 1)?;
     let _ = fail.push(call);
-    let content = zeros(alloc, HEAD_BYTES as usize)?;
+    let content = blank(alloc, HEAD_BYTES as usize)?;
     let mut disk = MemoryDisk::new(alloc, content, HEAD_BYTES, fail);
     let mut tail = close_half(&mut disk, Slot::B).expect(rt, "a format");
     let first = ready(alloc, &Entry::Delete { number: 1 })?;

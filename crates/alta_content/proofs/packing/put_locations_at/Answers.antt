@@ -1,5 +1,5 @@
 use Rattle.std.proofs.Common.{ℕ, ◌+◌, ◌-◌, ◌%◌, ◌^◌, ◌++◌, ◌∷◌, [], List, drop, sym, ap, ◌∙◌, arith}
-use Rattle.alta_content.specs.Packed.{locations_in, number_in}
+use Rattle.alta_content.specs.Packed.{locations_in, leading_number}
 use Rattle.alta_content.proofs.Packs.{next_location}
 use Rattle.alta_content.proofs.packing.put_locations_at.Goals as goal
 
@@ -12,7 +12,7 @@ loop-preserved c =
       at = c.number_at-gap.ensures.within;
       all = c.loop.invariant.all
           ∙ next_location c.loop.all.items left c.loop.location gaps (omega (arith, c.loop-test.true))
-          ∙ ap (λ (r : ℕ). (c.loop.all.items ++ ((c.loop.location + r) % 2 ^ 64) ∷ []) ++ locations_in (left - 1) ((c.loop.location + r) % 2 ^ 64) (number_in gaps).1) (sym c.number_at-gap.ensures.number)
+          ∙ ap (λ (r : ℕ). (c.loop.all.items ++ ((c.loop.location + r) % 2 ^ 64) ∷ []) ++ locations_in (left - 1) ((c.loop.location + r) % 2 ^ 64) (leading_number gaps).1) (sym c.number_at-gap.ensures.number)
           ∙ ap (λ (r : List ℕ). (c.loop.all.items ++ ((c.loop.location + next.0) % 2 ^ 64) ∷ []) ++ locations_in (left - 1) ((c.loop.location + next.0) % 2 ^ 64) r) (sym c.number_at-gap.ensures.behind)
           ∙ ap (λ (n : ℕ). (c.loop.all.items ++ ((c.loop.location + next.0) % 2 ^ 64) ∷ []) ++ locations_in n ((c.loop.location + next.0) % 2 ^ 64) (drop next.1 c.args.gaps.now)) (omega arith)
           ∙ ap (λ (xs : List ℕ). xs ++ locations_in (c.args.count - (c.loop.counter + 1)) ((c.loop.location + next.0) % 2 ^ 64) (drop next.1 c.args.gaps.now)) (sym c.in_ok-push.ensures.items);

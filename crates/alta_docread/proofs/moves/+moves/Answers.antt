@@ -4,7 +4,8 @@ use Rattle.alta_codec.specs.Rising.{first_from}
 use Rattle.alta_compound.specs.OverReaders.{place-positive}
 use Rattle.alta_compound.specs.Union.{least_of}
 use Rattle.alta_docread.specs.Moves.{IsAsked, IsSkipped}
-use Rattle.alta_docread.specs.Tree.{Tree, trees_of, tree_place, places_of, greatest_of, tree_depth, IsSoundTree}
+use Rattle.alta_codec.specs.Lists.{greatest_of}
+use Rattle.alta_docread.specs.Tree.{Tree, trees_of, tree_place, places_of, tree_depth, IsSoundTree}
 use Rattle.alta_docread.specs.View.{reading_of, tree_of}
 use Rattle.alta_docread.specs.declared.node.Node.{Node}
 use Rattle.alta_docread.proofs.Each.{sound_each, places_each, depth_at, kept_length}

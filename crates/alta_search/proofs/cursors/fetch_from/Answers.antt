@@ -1,6 +1,6 @@
 use Rattle.std.proofs.Common.{refl, arith}
 use Rattle.std.proofs.Math.Seq.{map-set_same}
-use Rattle.alta_search.specs.Open.{number_in}
+use Rattle.alta_search.specs.Open.{cursor_number}
 use Rattle.alta_search.proofs.CursorAnswers.{IsAt, fetch_none, fetch_some, work_at}
 use Rattle.alta_search.proofs.cursors.fetch_from.Goals as goal
 
@@ -21,7 +21,7 @@ returns-in_ok-page-in-Some-clause-fetched g c =
     fetch_some c.args.number c.args.count held c.in-Some.place d _ c.in_ok-page-in-Some.page c.requires at refl c.in_ok-page-in-Some.ensures.page
 
 pub returns-in_ok-page-in-Some-clause-numbers : goal.returns-in_ok-page-in-Some-clause-numbers
-returns-in_ok-page-in-Some-clause-numbers g c = map-set_same number_in c.args.cursors.now c.in-Some.place _ c.index-cursors-place.result refl
+returns-in_ok-page-in-Some-clause-numbers g c = map-set_same cursor_number c.args.cursors.now c.in-Some.place _ c.index-cursors-place.result refl
 
 pub returns-in_ok-page-in-Some-clause-most : goal.returns-in_ok-page-in-Some-clause-most
 returns-in_ok-page-in-Some-clause-most g c =

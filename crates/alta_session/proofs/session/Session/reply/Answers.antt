@@ -4,7 +4,7 @@ use Rattle.alta_machine.specs.Dumps.{dump_of}
 use Rattle.alta_dump.specs.Shown.{dump_tests}
 use Rattle.alta_machine.specs.declared.document.State.{State}
 use Rattle.alta_meaning.specs.Work.{flushes, merges, steps}
-use Rattle.alta_machine.specs.Command.{Reads, adds, deletes, searches, counts as asks_count, explains, opens, fetches, closes, ranks, flushes as asks_flush, merges as asks_merge, steps as asks_step, asks_stats, dumps}
+use Rattle.alta_machine.specs.Command.{ReadsLine, adds, deletes, searches, counts as asks_count, explains, opens, fetches, closes, ranks, flushes as asks_flush, merges as asks_merge, steps as asks_step, asks_stats, dumps}
 use Rattle.alta_machine.specs.Lines.{Reading, asks}
 use Rattle.alta_model.specs.Seen.{command_of}
 use Rattle.alta_model.specs.declared.line.Line.{Line}
@@ -33,7 +33,7 @@ use Rattle.alta_session.proofs.session.Session.reply.Goals as goal
 pub add-requires-clause-document : goal.add-requires-clause-document
 add-requires-clause-document g c =
     let line : List ℕ = c.args.line.now in
-    let P : Line → Type 0 = λ l. Reads line (command_of l) in
+    let P : Line → Type 0 = λ l. ReadsLine line (command_of l) in
     line_is_document line c.in-Add.name.now c.in-Add.title.now c.in-Add.body.now c.requires.one_line c.in-Ok.ensures.read.0 (subst P c.in-Add.is c.in-Ok.ensures.read.1)
 
 pub returns-in-Add-clause-answers : goal.returns-in-Add-clause-answers
