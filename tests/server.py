@@ -28,7 +28,7 @@ sys.path.insert(0, os.path.join(TOP, "client"))
 import buncocedar  # noqa: E402
 import fake  # noqa: E402
 from buncocedar import Index  # noqa: E402
-from buncocedar.server import LEVELS_KEPT, LINES_AHEAD, batches, level_count  # noqa: E402
+from buncocedar.server import IDLE_SECONDS, LEVELS_KEPT, LINES_AHEAD, Server, batches, level_count  # noqa: E402
 
 FAKE = fake.installed()
 PROGRAM = None
@@ -57,10 +57,12 @@ class Case(unittest.TestCase):
         self.path = os.path.join(self.folder, "x.alta")
         self.socket = self.path + ".socket"
 
-    def serve(self, **do):
-        """A server of the index that listens."""
+    def serve(self, files=None, **do):
+        """A server of the index that listens, and may have no more files than this open at a time."""
+        words = [sys.executable, os.path.join(TOP, "client", "server.py"), self.path, "--create"]
+        limited = ["sh", "-c", f'ulimit -n {files} && exec "$@"', "sh"] if files else []
         server = subprocess.Popen(
-            [sys.executable, os.path.join(TOP, "client", "server.py"), self.path, "--create"],
+            limited + words,
             env={**os.environ, "BUNCOCEDAR_PROGRAM": self.program, "FAKE": json.dumps(do)},
             stderr=subprocess.PIPE,
             text=True,
@@ -320,6 +322,62 @@ class Ends(Case):
         server.communicate()
         self.assertIn(b"! ended -9", connection.makefile("rb").read())
 
+    def idle(self, connection):
+        """Lets the server look whether levels are to be joined, which it does when nobody has asked for a moment."""
+        time.sleep(3 * IDLE_SECONDS)
+        connection.sendall(b"stats\n")
+        self.assertTrue(connection.recv(100).startswith(b"documents "))
+
+    def test_many_that_do_not_ask(self):
+        # There are more than the server may have files open. Who is connected goes on, and the others come in when some leave.
+        server = self.serve(files=40)
+        first, *others = [self.raw() for _ in range(60)]
+        self.assertIn("no further client can be taken before one leaves: Too many open files", server.stderr.readline())
+        self.idle(first)
+        for connection in others[:-1]:
+            connection.close()
+        self.idle(others[-1])
+        self.assertEqual(self.end(server)[0], 0)
+
+    def test_another_file_at_its_place(self):
+        server = self.serve()
+        connection = self.raw()
+        connection.sendall(b"add a\t\tx\n")
+        self.assertEqual(connection.recv(100), b"added 1\n")
+        os.rename(self.path, os.path.join(self.folder, "moved.alta"))
+        self.idle(connection)
+        os.mkdir(self.path)
+        self.idle(connection)
+        self.assertEqual(self.end(server), (0, ""))
+
+    def test_what_is_no_end(self):
+        # A file that can't be read, and a program that is too old to join levels: the server goes on.
+        many = os.path.join(self.folder, "many")
+        with open(many, "wb") as file:
+            file.write(b"\xa5\x01\0" + bytes([LEVELS_KEPT + 1]))
+        for path, step in [(self.folder, None), (many, buncocedar.UnknownCommand("! unknown command"))]:
+            handle = os.open(path, os.O_RDONLY)
+            self.addCleanup(os.close, handle)
+            index = unittest.mock.Mock(**{"step.side_effect": step})
+            server = Server(index, unittest.mock.Mock(fileno=lambda: handle), None)
+            self.assertEqual((server._tidy(), server.end, index.step.called), (False, None, step is not None))
+
+    def test_threads_that_cannot_start(self):
+        # Its client is told so by the end of the connection, and the others go on.
+        ours, theirs = socket.socketpair()
+        self.addCleanup(ours.close)
+        ours.settimeout(PATIENCE)
+        server = Server(None, None, unittest.mock.Mock())
+
+        def accept():
+            server._stopped = True
+            return theirs, None
+
+        server.listener.accept = accept
+        with unittest.mock.patch.object(threading.Thread, "start", side_effect=RuntimeError):
+            server._accept()
+        self.assertEqual(ours.recv(1), b"")
+
     def test_where_it_cannot_listen(self):
         with self.index(create=True):
             pass
@@ -449,26 +507,30 @@ class TogetherFake(Together, Case):
 class TogetherReal(Together, Case):
     program = None
 
+    def levels(self):
+        with open(self.path, "rb") as file:
+            return level_count(file)
+
     def test_levels_are_joined_while_nobody_asks(self):
         server = self.serve()
         with self.index() as index:
             for i in range(LEVELS_KEPT + 3):
                 index.add(f"n{i}", "", f"x word{i}")
                 index.flush()
-            until(lambda: level_count(self.path) <= LEVELS_KEPT)
+            until(lambda: self.levels() <= LEVELS_KEPT)
             self.assertEqual(index.count("x"), LEVELS_KEPT + 3)
             self.assertEqual(len(list(index.search("x"))), LEVELS_KEPT + 3)
         self.assertEqual(self.end(server)[0], 0)
 
     def test_levels_are_counted(self):
         with self.index(create=True) as index:
-            self.assertEqual(level_count(self.path), 0)
+            self.assertEqual(self.levels(), 0)
             for i in range(1, 4):
                 index.add(f"n{i}", "", "x")
                 index.flush()
-                self.assertEqual(level_count(self.path), i)
+                self.assertEqual(self.levels(), i)
             index.merge()
-            self.assertEqual(level_count(self.path), 1)
+            self.assertEqual(self.levels(), 1)
 
     def test_the_same_answers(self):
         self.serve()

@@ -51,10 +51,9 @@ class Stopped(Exception):
     """The server ends, and takes no further line."""
 
 
-def level_count(path):
-    """How many levels the root of the index names, as docs/FORMAT.md says; none where the file is of another version."""
-    with open(path, "rb") as file:
-        slots = [os.pread(file.fileno(), 4, place) for place in (0, 4_096)]
+def level_count(file):
+    """How many levels the root of the index in this file names, as docs/FORMAT.md says; none where it is of another version."""
+    slots = [os.pread(file.fileno(), 4, place) for place in (0, 4_096)]
     roots = [(slot[2], slot[3]) for slot in slots if slot[:2] in _OPEN_SLOTS and len(slot) == 4]
     if len(roots) == 2 and (roots[0][0] + 1) % 256 == roots[1][0]:
         roots.reverse()
@@ -185,10 +184,11 @@ def batches(connection):
 
 
 class Server:
-    """The owner of an index, and the clients of a listening socket."""
+    """The owner of an index, and the clients of a listening socket. `file` is the index's file, open for reading."""
 
-    def __init__(self, index, listener):
+    def __init__(self, index, file, listener):
         self.index = index
+        self.file = file
         self.listener = listener
         self.sessions = set()
         self.end = None  # how the program has ended
@@ -259,12 +259,23 @@ class Server:
                     job[1].set_exception(Stopped())
 
     def _accept(self):
+        told = False
         while not self._stopped:
             try:
                 connection, _ = self.listener.accept()
+            except OSError as error:
+                # There are too many files, or the server ends.
+                if error.errno in (errno.EMFILE, errno.ENFILE) and not told:
+                    say(f"no further client can be taken before one leaves: {error.strerror}")
+                    told = True
+                time.sleep(0.1)
+                continue
+            told = False
+            try:
                 Session(self, connection).thread.start()
-            except (OSError, RuntimeError):
-                # There are too many files or threads, or the server ends.
+            except RuntimeError:
+                # There are too many threads. The session and its thread hold each other, so nothing else would close it soon.
+                connection.close()
                 time.sleep(0.1)
 
     def _do(self, line, future):
@@ -294,9 +305,12 @@ class Server:
     def _tidy(self):
         """Moves a join on where there are many levels, and tells whether there may be more to do."""
         try:
-            if level_count(self.index.path) <= LEVELS_KEPT:
+            if level_count(self.file) <= LEVELS_KEPT:
                 return False
             self.index.step(STEP_TERMS)
+        except (OSError, Refused):
+            # No join is due now: the file can't be read, which is told to who asks for what it has, or the program is an older one.
+            return False
         except Error as error:
             self._fail(error)
         return True
@@ -357,8 +371,11 @@ def say(text):
 
 def serve(options):
     """Serves an index until it is asked to end, and answers the exit status."""
-    with Index(options.index, options.create, patience=options.wait, on_wait=say, server=False) as index:
-        server = Server(index, listening(options.index))
+    with contextlib.ExitStack() as stack:
+        index = stack.enter_context(Index(options.index, options.create, patience=options.wait, on_wait=say, server=False))
+        # Opened once: later there may be too many files, or another one at the path.
+        file = stack.enter_context(open(options.index, "rb"))
+        server = Server(index, file, listening(options.index))
         try:
             handle_signals(server)
             say(f"listening at {server_path(options.index)}")
