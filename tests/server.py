@@ -28,7 +28,7 @@ sys.path.insert(0, os.path.join(TOP, "client"))
 import buncocedar  # noqa: E402
 import fake  # noqa: E402
 from buncocedar import Index  # noqa: E402
-from buncocedar.server import IDLE_SECONDS, LEVELS_KEPT, LINES_AHEAD, Server, batches, level_count  # noqa: E402
+from buncocedar.server import IDLE_SECONDS, LEVELS_KEPT, LINES_AHEAD, Server, Stopped, batches, level_count  # noqa: E402
 
 FAKE = fake.installed()
 PROGRAM = None
@@ -361,6 +361,16 @@ class Ends(Case):
             index = unittest.mock.Mock(**{"step.side_effect": step})
             server = Server(index, unittest.mock.Mock(fileno=lambda: handle), None)
             self.assertEqual((server._tidy(), server.end, index.step.called), (False, None, step is not None))
+
+    def test_the_end_comes_before_lines_that_wait(self):
+        index = unittest.mock.Mock(path=self.path)
+        server = Server(index, None, unittest.mock.Mock(**{"accept.side_effect": OSError}))
+        waiting = [server.send(b"stats") for _ in range(3)]
+        index.send_line.side_effect = lambda line: server.stop() or unittest.mock.Mock()
+        server.run()
+        server.close()
+        self.assertEqual([future.exception() is None for future in waiting], [True, False, False])
+        self.assertEqual({type(future.exception()) for future in waiting[1:]}, {Stopped})
 
     def test_threads_that_cannot_start(self):
         # Its client is told so by the end of the connection, and the others go on.

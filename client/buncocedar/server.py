@@ -192,9 +192,10 @@ class Server:
         self.listener = listener
         self.sessions = set()
         self.end = None  # how the program has ended
-        self._jobs = queue.SimpleQueue()  # lines, each with the future of its reply; None asks the server to end
+        self._jobs = queue.SimpleQueue()  # lines, each with the future of its reply; None wakes the owner
         self._sent = deque()  # replies that are under way, each with its future
-        self._stopped = False
+        self._is_to_end = False  # it takes no line from the queue any more
+        self._stopped = False  # it takes none into the queue
 
     def ask(self, line):
         """The lines of the reply, to a dump in a file, when the owner has come to it: for the threads of clients."""
@@ -209,14 +210,15 @@ class Server:
         return future
 
     def stop(self):
-        """Asks the server to end. A handler of a signal may do so too."""
+        """Asks the server to end, before the lines that wait. A handler of a signal may do so too."""
+        self._is_to_end = True
         self._jobs.put(None)
 
     def run(self):
         """Answers lines until the server is asked to end, or the program ends."""
         threading.Thread(target=self._accept, daemon=True).start()
         seconds = IDLE_SECONDS
-        while self.end is None:
+        while self.end is None and not self._is_to_end:
             try:
                 job = self._jobs.get(timeout=0 if self._sent else seconds)
             except queue.Empty:
@@ -225,9 +227,8 @@ class Server:
                 else:
                     seconds = 0 if self._tidy() else None
                 continue
-            if job is None:
-                break
-            self._do(*job)
+            if job is not None:
+                self._do(*job)
             seconds = IDLE_SECONDS
         while self._sent:
             self._settle()
