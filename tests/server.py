@@ -28,6 +28,7 @@ sys.path.insert(0, os.path.join(TOP, "client"))
 import buncocedar  # noqa: E402
 import fake  # noqa: E402
 from buncocedar import Index  # noqa: E402
+from buncocedar.beside import give_rights  # noqa: E402
 from buncocedar.server import IDLE_SECONDS, LEVELS_KEPT, LINES_AHEAD, Server, Stopped, batches, level_count  # noqa: E402
 
 FAKE = fake.installed()
@@ -417,8 +418,12 @@ class Ends(Case):
         with self.index(create=True):
             pass
         os.chmod(self.path, 0o640)
+        # Its group is another one than that of what its owner makes, where the test may give it such.
+        with contextlib.suppress(OSError):
+            os.chown(self.path, -1, max(os.getgroups(), default=0) + (os.geteuid() == 0))
         self.serve()
-        self.assertEqual(stat.S_IMODE(os.stat(self.socket).st_mode), 0o640)
+        found, like = os.stat(self.socket), os.stat(self.path)
+        self.assertEqual((found.st_uid, found.st_gid, stat.S_IMODE(found.st_mode)), (like.st_uid, like.st_gid, 0o640))
         # What only leads to a server elsewhere is none of this index.
         other = os.path.join(self.folder, "other.alta")
         os.symlink(self.socket, other + ".socket")
@@ -429,6 +434,34 @@ class Ends(Case):
         # A client that wants a program of its own does not get the server.
         with self.assertRaises(buncocedar.InUse):
             Index(self.path, program=self.program, patience=0, server=False)
+
+
+class Rights(Case):
+    def test_no_wider_than_those_of_the_file(self):
+        # The rights of the file, whether its group is that of what is made, or can be given to it, and the rights that come of it.
+        with open(self.path, "w"):
+            pass
+        own = os.stat(self.path)
+        for mode, is_same, may_give, wanted in [
+            (0o660, True, False, 0o660),
+            (0o666, True, False, 0o666),
+            (0o400, True, False, 0o600),
+            (0o755, True, False, 0o644),
+            (0o660, False, True, 0o660),
+            (0o606, False, True, 0o606),
+            (0o660, False, False, 0o600),
+            (0o606, False, False, 0o600),
+            (0o664, False, False, 0o604),
+            (0o666, False, False, 0o606),
+        ]:
+            group = own.st_gid if is_same else own.st_gid + 1
+            like = os.stat_result((stat.S_IFREG | mode, 0, 0, 1, own.st_uid, group, 0, 0, 0, 0))
+            made = os.stat_result((own.st_mode, 0, 0, 1, own.st_uid, group if may_give else own.st_gid, 0, 0, 0, 0))
+            given = [None] if may_give else PermissionError
+            os.chmod(self.path, 0o600)
+            with unittest.mock.patch("os.chown", side_effect=given), unittest.mock.patch("os.stat", return_value=made):
+                give_rights(self.path, like)
+            self.assertEqual(oct(os.stat(self.path).st_mode & 0o777), oct(wanted), (oct(mode), is_same, may_give))
 
 
 class Together:

@@ -1,4 +1,6 @@
-"""Folders for what is being made: a file that is to be whole or not there is made in one, and moved into place at the end.
+"""What is made beside an index: who may use it, and folders for a file that is to be whole or not there.
+
+Such a file is made in a folder of its own, and moved into place at the end.
 
 Who makes something holds the lock of a file in its folder (`flock`). So a folder whose file is not locked was left by one that was
 killed. The folder itself is not locked, since a client locks the folder of the index that it opens.
@@ -11,6 +13,7 @@ import fcntl
 import os
 import re
 import shutil
+import stat
 import tempfile
 from typing import Iterator, List
 
@@ -19,6 +22,20 @@ MADE = "index.alta"  # the file that is made; what stands beside it has its name
 LOCK = "lock"  # the file that the maker locks
 
 _ODD = "[a-z0-9_]{8}"  # what tempfile puts behind a prefix
+
+
+def give_rights(path: str, like: os.stat_result) -> None:
+    """Lets those read and write what was made at the path who may do so with a file: who made it, and nobody whom the file shuts out."""
+    # Only the system's own user gives away what is his; whoever is of the file's group may give it to that.
+    for owner in (like.st_uid, -1):
+        with contextlib.suppress(OSError):
+            os.chown(path, owner, like.st_gid)
+            break
+    rights = stat.S_IMODE(like.st_mode) & 0o666
+    if os.stat(path).st_gid != like.st_gid:
+        # Here the file's group is among the others, and another group has nothing to look for.
+        rights &= 0o600 | rights >> 3 & 0o006
+    os.chmod(path, 0o600 | rights)
 
 
 @contextlib.contextmanager

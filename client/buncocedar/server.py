@@ -30,6 +30,7 @@ from collections import deque
 from concurrent.futures import Future
 
 from . import LINE_LIMIT, Ended, Error, Index, Refused, server_path
+from .beside import give_rights
 
 PAGE = 1_000  # rows of a search, at a time
 PIECE = 1 << 16  # bytes of a dump, at a time
@@ -341,7 +342,7 @@ def listening(path):
     mask = os.umask(0o177)
     try:
         listener.bind(place)
-        os.chmod(place, os.stat(path).st_mode & 0o666)
+        give_rights(place, os.stat(path))
         listener.listen(128)
     except OSError as error:
         listener.close()
