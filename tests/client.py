@@ -384,6 +384,30 @@ class Calls(Case):
         with self.assertRaises(OSError):
             Index(self.path, program=os.path.join(self.folder.name, "nothing"))
 
+    def test_making_at_a_link(self):
+        # It is made where the link leads, which stays; an empty file there keeps its rights.
+        os.mkdir(os.path.join(self.folder.name, "far"))
+        for name, empty in [("new", False), ("empty", True)]:
+            far, link = os.path.join(self.folder.name, "far", name), os.path.join(self.folder.name, name)
+            second = link + ".second"
+            if empty:
+                open(far, "w").close()
+                os.chmod(far, 0o600)
+            os.symlink(os.path.join("far", name), link)
+            os.symlink(link, second)
+            with Index(second, create=True, program=FAKE) as index:
+                index.add("a", "", "")
+            self.assertTrue(os.path.islink(link) and os.path.islink(second), name)
+            with Index(far, program=FAKE) as index:
+                self.assertEqual(index.stats().documents, 1)
+        self.assertEqual(sorted(os.listdir(os.path.join(self.folder.name, "far"))), ["empty", "new"])
+        self.assertEqual(os.stat(os.path.join(self.folder.name, "far", "empty")).st_mode & 0o777, 0o600)
+        for target, kind in [("none/new", FileNotFoundError), (self.path, OSError)]:
+            os.symlink(target, self.path)
+            with self.assertRaisesRegex(kind, "no index can be made: .*x.alta"):
+                Index(self.path, create=True, program=FAKE)
+            os.remove(self.path)
+
     def test_what_a_killed_one_has_left(self):
         def put(folder, *names):
             os.makedirs(os.path.join(self.folder.name, folder))

@@ -16,6 +16,7 @@ from __future__ import annotations
 import contextlib
 import copy
 import datetime
+import errno
 import fcntl
 import operator
 import os
@@ -36,7 +37,7 @@ import weakref
 from collections import deque
 from typing import Any, Callable, Iterable, Iterator, List, NamedTuple, Optional, Tuple, Union
 
-from .beside import making
+from .beside import give_rights, making
 
 __version__ = "0.1.0"
 __all__ = [
@@ -1440,21 +1441,24 @@ def _holds_bytes(path):
 def _make(program, path):
     """Makes an index at the path: whole, or not at all. Where this is killed a folder may stay, which the next one takes away.
 
-    Where another client has made one meanwhile, that one stays.
+    Of a link it is made where that leads. Where another client has made one meanwhile, that one stays.
     """
-    folder = os.path.dirname(os.path.abspath(path))
+    place = os.path.realpath(path)
+    folder = os.path.dirname(place)
     with contextlib.ExitStack() as stack:
         try:
+            if os.path.islink(place):
+                raise OSError(errno.ELOOP, os.strerror(errno.ELOOP))
             fresh = stack.enter_context(making(folder))
         except OSError as error:
             raise OSError(error.errno, f"no index can be made: {error.strerror}", path) from None
         status, line = _initialised(program, fresh)
         if status != 0:
             raise _ended(status, line, path, opened=False)
-        if os.path.exists(path):
-            _replace_empty(fresh, path)
+        if os.path.exists(place):
+            _replace_empty(fresh, place)
         else:
-            _put(fresh, path)
+            _put(fresh, place)
     handle = os.open(folder, os.O_RDONLY)
     try:
         os.fsync(handle)
@@ -1491,8 +1495,9 @@ def _put(fresh, path):
 
 
 def _replace_empty(fresh, path):
-    """Moves a file to the place of an empty one."""
+    """Moves a file to the place of an empty one, whose rights it gets."""
     if not _holds_bytes(path):
+        give_rights(fresh, os.stat(path))
         os.replace(fresh, path)
 
 
