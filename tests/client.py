@@ -836,6 +836,59 @@ class UnderWay(Case):
         self.fake().close()
 
 
+class Opening(Case):
+    """One client opens an index at a time, and each index by itself."""
+
+    def setUp(self):
+        super().setUp()
+        self.go = os.path.join(self.folder.name, "go")
+        self.slow = os.path.join(self.folder.name, "slow")
+        # A program that has started and has not locked its index yet.
+        with open(self.slow, "w") as file:
+            file.write(f'#!/bin/sh\n: >{self.mark}\nuntil [ -e {self.go} ]; do sleep 0.05; done\nexec {FAKE} "$@"\n')
+        os.chmod(self.slow, 0o755)
+
+    def test_each_index_by_itself(self):
+        # The lock is that of a file beside the index; that of the folder where no such file can be made, as for so long a name.
+        for name, is_beside in [("a.alta", True), ("a" * 250 + ".alta", False)]:
+            path, other = os.path.join(self.folder.name, name), os.path.join(self.folder.name, "other.alta")
+            for place in (path, other):
+                Index(place, create=True, program=FAKE).close()
+            before = set(os.listdir(self.folder.name)) | {"mark", "go"}
+            opened = []
+            thread = threading.Thread(target=lambda: opened.append(Index(path, program=self.slow, patience=0)))
+            thread.start()
+            until(lambda: os.path.exists(self.mark))
+            with self.assertRaises(buncocedar.InUse):
+                Index(path, program=FAKE, patience=0)
+            if is_beside:
+                with Index(other, program=FAKE, patience=0) as index:
+                    self.assertEqual(index.stats().documents, 0)
+            open(self.go, "w").close()
+            thread.join()
+            self.assertEqual(set(os.listdir(self.folder.name)), before)
+            opened[0].close()
+            os.remove(self.go)
+            os.remove(self.mark)
+
+    def test_what_stands_at_the_place_of_its_lock(self):
+        # What a killed client has left is taken away; what it has not made stays, and hinders nobody.
+        self.fake().close()
+        place = os.path.join(self.folder.name, f".x.alta{buncocedar.TURN}")
+        for put, stays in [
+            (lambda: open(place, "w").close(), False),
+            (lambda: pathlib.Path(place).write_text("notes"), True),
+            (lambda: os.symlink("none", place), True),
+            (lambda: os.mkfifo(place), True),
+            (lambda: os.mkdir(place), True),
+        ]:
+            put()
+            with Index(self.path, program=FAKE, patience=0) as index:
+                self.assertEqual((index.stats().documents, os.path.lexists(place)), (0, stays))
+            with contextlib.suppress(FileNotFoundError):
+                os.rmdir(place) if os.path.isdir(place) else os.remove(place)
+
+
 class Waiting(Case):
     def test_who_is_waited_for(self):
         told = []

@@ -95,6 +95,7 @@ REFUSALS_KEPT = 1_000  # refused replies that nobody has taken yet, before the o
 SCANT_ROOM = 4_194_304  # bytes: with fewer free a disk counts as full
 SECONDS_OF_SILENCE = 0.5  # of a wait for an index that is in use, before it is told
 SECONDS_TO_END = 5  # that a program has to end, once it can read no more lines
+TURN = ".turn.alta"  # how the name of the file ends whose lock is the turn to open an index; no import takes such a file in
 
 _NAME = re.compile(r"[!-~]{1,64}")
 _NUMBER = r"(0|[1-9][0-9]*)"
@@ -1506,14 +1507,46 @@ def _turn(path):
     """Whether it is this client's turn to open the index at this path: no program has the file then.
 
     The program locks the file itself, and ends where another has it. So that no two clients start one at once, each holds
-    the lock of the file's folder until its program has the file. Where there are no locks it is always its turn.
+    the lock of an empty file beside the index until its program has that, and takes it away then. Where none can be made it
+    is the lock of the folder, and where there are no locks it is always its turn.
     """
-    with _opened(os.path.dirname(os.path.realpath(path)), os.O_RDONLY) as folder:
-        yield _lock(folder) and not _is_locked(path)
+    if _owner(path) is not None:
+        # Who waits looks time and again, and makes no file each time.
+        yield False
+        return
+    folder, name = os.path.split(os.path.realpath(path))
+    place = os.path.join(folder, f".{name}{TURN}")
+    with _opened(place, os.O_RDONLY | os.O_CREAT | os.O_NOFOLLOW | os.O_NONBLOCK) as file:
+        if file is None or not _is_empty_file(file):
+            # Something else stands there, or nothing can.
+            with _opened(folder, os.O_RDONLY) as handle:
+                yield _lock(handle) and not _is_locked(path)
+            return
+        # Who comes later locks another one, where this was taken away meanwhile.
+        is_mine = _lock(file) and _is_at(file, place)
+        try:
+            yield is_mine and not _is_locked(path)
+        finally:
+            if is_mine:
+                with contextlib.suppress(OSError):
+                    os.unlink(place)
+
+
+def _is_empty_file(handle):
+    found = os.fstat(handle)
+    return stat.S_ISREG(found.st_mode) and found.st_size == 0
+
+
+def _is_at(handle, path):
+    """Whether the handle is of what stands at the path."""
+    try:
+        return os.path.samestat(os.fstat(handle), os.lstat(path))
+    except OSError:
+        return False
 
 
 def _is_locked(path):
-    """Whether a program has locked the file."""
+    """Whether a program has locked the file. A program that locks it at this moment fails, so only who has the turn may look."""
     with _opened(path, os.O_RDWR) as file:
         return not _lock(file)
 
@@ -1522,7 +1555,7 @@ def _is_locked(path):
 def _opened(path, flags):
     """A handle, or None where it can't be had: the program then says why."""
     try:
-        handle = os.open(path, flags)
+        handle = os.open(path, flags, 0o666)
     except OSError:
         yield None
         return
@@ -1571,6 +1604,12 @@ def _in_use(path):
 
 def holder(path: str) -> Optional[str]:
     """Which process has the index open, by whom it was started and since when, in words; None where the system tells none."""
+    owner = _owner(path)
+    return None if owner is None else _process_words(owner)
+
+
+def _owner(path):
+    """The number of the process that has locked the file, None where the system tells none."""
     try:
         found = os.stat(path)
         with open("/proc/locks", encoding="ascii") as file:
@@ -1579,7 +1618,7 @@ def holder(path: str) -> Optional[str]:
         return None
     place = f"{os.major(found.st_dev):02x}:{os.minor(found.st_dev):02x}:{found.st_ino}"
     owners = (int(words[4]) for words in locks if words[1] == "FLOCK" and words[5] == place)
-    return next((_process_words(owner) for owner in owners if owner > 0), None)
+    return next((owner for owner in owners if owner > 0), None)
 
 
 def _process_words(number):

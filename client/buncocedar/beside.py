@@ -3,7 +3,7 @@
 Such a file is made in a folder of its own, and moved into place at the end.
 
 Who makes something holds the lock of a file in its folder (`flock`). So a folder whose file is not locked was left by one that was
-killed. The folder itself is not locked, since a client locks the folder of the index that it opens.
+killed. The folder itself is not locked, since a client that can make no file beside an index locks its folder while it opens that.
 """
 
 from __future__ import annotations
