@@ -12,6 +12,8 @@ with 1 where one is not. An unchanged crate that is proved is not proved again.
 """
 
 import argparse
+import contextlib
+import fcntl
 import os
 import shutil
 import subprocess
@@ -22,6 +24,7 @@ from concurrent.futures import FIRST_COMPLETED, ThreadPoolExecutor, wait
 TOP = os.path.dirname(os.path.realpath(__file__))
 PROGRAM = "alta_cli"
 MEMORY_OF_ONE = 4 << 30
+LANES = "lanes-"  # how the name of a folder of copies begins
 
 
 def needs():
@@ -72,6 +75,42 @@ def lanes_here():
     return max(1, min(4, len(os.sched_getaffinity(0)), free // MEMORY_OF_ONE))
 
 
+@contextlib.contextmanager
+def locked(folder, how=fcntl.LOCK_EX):
+    """A handle of the folder, and whether it has the lock: it has none where another one has it, or the file system knows no locks."""
+    handle = os.open(folder, os.O_RDONLY)
+    try:
+        fcntl.flock(handle, how)
+        has_lock = True
+    except OSError:
+        has_lock = False
+    try:
+        yield handle, has_lock
+    finally:
+        os.close(handle)
+
+
+def sweep(parent):
+    """Takes away the copies that builds have left as they were killed: whoever works in them has their folder locked."""
+    for entry in list(os.scandir(parent)):
+        if entry.name.startswith(LANES) and entry.is_dir(follow_symlinks=False):
+            with locked(entry.path, fcntl.LOCK_EX | fcntl.LOCK_NB) as (_, is_left):
+                if is_left:
+                    shutil.rmtree(entry.path, ignore_errors=True)
+
+
+@contextlib.contextmanager
+def lanes_folder(parent):
+    """A new folder for copies, and a handle that has it locked; what was left there is taken away before."""
+    with contextlib.ExitStack() as stack:
+        # So that no other build takes the new one for left, before it is locked.
+        with locked(parent):
+            sweep(parent)
+            folder = stack.enter_context(tempfile.TemporaryDirectory(prefix=LANES, dir=parent))
+            handle, _ = stack.enter_context(locked(folder))
+        yield folder, handle
+
+
 def link_or_copy(one, other):
     try:
         os.link(one, other)
@@ -80,9 +119,10 @@ def link_or_copy(one, other):
 
 
 class Build:
-    """The copies of the sources, and what is proved of the crates."""
+    """The copies of the sources, and what is proved of the crates. Each proof holds the lock of the handle, too."""
 
-    def __init__(self, folder, lanes):
+    def __init__(self, folder, handle, lanes):
+        self.handle = handle
         self.free = [f"{folder}/{number}" for number in range(lanes)]
         self.copies = list(self.free)
         for copy in self.copies:
@@ -98,7 +138,12 @@ class Build:
             shutil.rmtree(here, ignore_errors=True)
             os.rename(home, here)
         done = subprocess.run(
-            ["rt", "lib", "--jobs", str(jobs)], cwd=os.path.dirname(here), stdout=subprocess.PIPE, stderr=subprocess.STDOUT, errors="replace"
+            ["rt", "lib", "--jobs", str(jobs)],
+            cwd=os.path.dirname(here),
+            stdout=subprocess.PIPE,
+            stderr=subprocess.STDOUT,
+            errors="replace",
+            pass_fds=[self.handle],
         )
         if os.path.isdir(here):
             os.rename(here, home)
@@ -134,8 +179,8 @@ def main():
     lanes = parser.parse_args().jobs
     home = f"{TOP}/crates/{PROGRAM}"
     os.makedirs(f"{home}/out", exist_ok=True)
-    with tempfile.TemporaryDirectory(prefix="lanes-", dir=f"{home}/out") as folder:
-        if not prove_all(Build(folder, lanes), needs(), lanes):
+    with lanes_folder(f"{home}/out") as (folder, handle):
+        if not prove_all(Build(folder, handle, lanes), needs(), lanes):
             return 1
     return subprocess.run(["rt", "run"], cwd=home).returncode
 

@@ -6,6 +6,7 @@ usage: tests/install.py --program PATH
 Where this Python has no pip its part is left out, and that is said.
 """
 
+import fcntl
 import os
 import shutil
 import signal
@@ -34,6 +35,7 @@ class Launcher(unittest.TestCase):
     def setUp(self):
         folder = tempfile.TemporaryDirectory()
         self.addCleanup(folder.cleanup)
+        self.folder = folder.name
         self.top = os.path.join(folder.name, "checkout")
         self.prefix = os.path.join(folder.name, "prefix with a blank")
         out = os.path.join(self.top, "crates", "alta_cli", "out")
@@ -55,6 +57,47 @@ class Launcher(unittest.TestCase):
         with open(os.path.join(self.prefix, "share", "man", "man1", "alta.1")) as page:
             self.assertTrue(page.read().startswith(".TH ALTA 1"))
         self.assertEqual(os.listdir(os.path.join(self.prefix, "bin")), ["alta"])
+
+    def test_what_init_does_not_write_over(self):
+        # The content of a file, the status of init and demo, and what is said: the program itself refuses an index.
+        other, exists = "alta: not empty, and no index\n", "alta: index exists\n"
+        rows = [
+            (b"no index\n", 10, other),
+            (b"", 0, ""),
+            (bytes(100), 0, ""),
+            (bytes(2_105_343) + b"x", 10, other),
+            (bytes(3_000_000) + b"x", 10, other),
+            (b"\xa5" + bytes(8190), 10, other),
+            (b"\xa5" + bytes(8191), 10, exists),
+            (bytes(4096) + b"\xa5" + bytes(4095), 10, exists),
+            (bytes(4097) + b"\xa5" + bytes(4095), 10, other),
+        ]
+        for shell in filter(shutil.which, ("sh", "dash", "bash", "busybox")):
+            words = [shell, *(["sh"] if shell == "busybox" else []), self.launcher, "--no-build"]
+            for content, status, said in rows:
+                self.kept([*words, "index", "init"], content, status, said)
+            self.kept([*words, "index", "demo", "1"], *rows[0])
+            for name in ("-", "--", "-n", "!", "(", "a b", "a\nb", " ", "*", "&1", "$HOME", "\u00e9"):
+                self.kept([*words, name, "init"], *rows[0])
+            self.assertEqual(done(*words, ".", "init", status=2, cwd=self.folder), "alta: disk fault\n")
+
+    def kept(self, words, content, status, said):
+        """A file of this content, which the words name behind the launcher's, stays as it is where it is not made an index."""
+        path = os.path.join(self.folder, words[words.index("--no-build") + 1])
+        with open(path, "wb") as file:
+            file.write(content)
+        given = done(*words, status=status, cwd=self.folder, stdin=subprocess.DEVNULL)
+        with open(path, "rb") as file:
+            stays = file.read() == content
+        self.assertEqual((stays, given), (status != 0, said), (words, content[:9]))
+        os.remove(path)
+
+    def test_installing_into_a_folder_of_any_name(self):
+        with open(os.path.join(self.folder, "--install"), "w") as file:
+            file.write("notes\n")
+        for name in ("init", "run", "demo"):
+            done(self.launcher, "--install", name, cwd=self.folder)
+            self.assertTrue(os.path.exists(os.path.join(self.folder, name, "bin", "alta")))
 
     def test_installing_again(self):
         # Over a program that runs, which goes on.
@@ -172,6 +215,7 @@ class Building(unittest.TestCase):
         first = self.building()
         second = self.start()
         self.assertIn("was not built yet", self.ended(self.start("--no-build"), 2, ""))
+        self.assertIn(f"waiting for process {first.pid}, which builds the program; see ", second.stderr.readline())
         self.let_go()
         self.assertIn("half an hour to an hour", self.ended(first, 0, "new"))
         self.ended(second, 0, "new")
@@ -218,6 +262,36 @@ class Building(unittest.TestCase):
         self.let_go()
         self.until(lambda: self.calls() == ["lib", "run"])
         self.ended(self.start(), 0, "new")
+
+    def test_another_process_with_the_number_of_one_that_built(self):
+        # As after a stop of the machine: one that began at another time, one of which that is not noted, one that has ended.
+        ended = subprocess.Popen(["sleep", "600"])
+        with open(f"/proc/{ended.pid}/stat") as file:
+            began = file.read().rpartition(")")[2].split()[19]
+        ended.kill()
+        self.addCleanup(ended.wait)
+        os.waitid(os.P_PID, ended.pid, os.WEXITED | os.WNOWAIT)
+        self.let_go()
+        for words in (f"{os.getpid()} 1", f"{os.getpid()}", f"{ended.pid} {began}", f"{1 << 30} 1", ""):
+            self.put("crates/alta_cli/out/building", f"{words}\n")
+            self.assertIn("building the program", self.ended(self.start(), 0, "new"), words)
+            os.remove(os.path.join(self.crate, "out", "alta_cli"))
+
+    def test_what_a_killed_build_has_left(self):
+        # Its copies are taken away, and those of one that runs are not, nor what only looks like them.
+        out = os.path.join(self.crate, "out")
+        for name in ("lanes-left", "lanes-used"):
+            self.put(f"crates/alta_cli/out/{name}/0/crates/alta_codec/src/lib.rt", "")
+        self.put("crates/alta_cli/out/lanes-file", "")
+        os.symlink("lanes-file", os.path.join(out, "lanes-link"))
+        handle = os.open(os.path.join(out, "lanes-used"), os.O_RDONLY)
+        self.addCleanup(os.close, handle)
+        fcntl.flock(handle, fcntl.LOCK_EX)
+        self.let_go()
+        self.ended(self.start(), 0, "new")
+        left = sorted(name for name in os.listdir(out) if name.startswith("lanes-"))
+        self.assertEqual(left, ["lanes-file", "lanes-link", "lanes-used"])
+        self.assertTrue(os.path.exists(os.path.join(out, "lanes-used", "0", "crates", "alta_codec", "src", "lib.rt")))
 
     def test_a_build_that_was_interrupted(self):
         self.put_older()
