@@ -24,7 +24,7 @@ from matching import Wanted
 from prompt import Prompt
 from terminal import NAME, PLACE, Paint, paged, printable, quiet_end, wants_colour
 
-from buncocedar import MOST_BEST, Error, Index, Refused, UnknownCommand
+from buncocedar import MOST_BEST, Error, Index, NotUtf8, Refused, UnknownCommand
 
 CONTEXT_COLUMNS = 100
 PROMPT_LIMIT = 20
@@ -167,13 +167,13 @@ class View:
         elif options.paths:
             self.show_path(name)
         elif options.names:
-            self.write(name)
+            self.write(self.given(name))
         elif options.show:
             self.show(name)
         elif options.edit:
             self.chosen.append(name)
         else:
-            self.write(f"{number} {self.paint(NAME, name)}{'' if score is None else f' {score}'}")
+            self.write(f"{number} {self.paint(NAME, self.clean(name))}{'' if score is None else f' {score}'}")
             if options.context:
                 self.context(name)
 
@@ -184,12 +184,14 @@ class View:
             print(f"find: {name}: {NOT_KNOWN}", file=sys.stderr)
         elif found.path != self.path:
             self.path = found.path
-            self.write(shown_path(found.path))
+            self.write(self.given(shown_path(found.path)))
+
+    def given(self, text):
+        """A path or a name as it is written: behind a NUL as it is."""
+        return text if self.options.null else self.clean(text)
 
     def write(self, text):
-        raw = self.options.json or self.options.null
-        end = "\0" if self.options.null else "\n"
-        sys.stdout.write((text if raw or "\x1b" in text and self.paint.on else self.clean(text)) + end)
+        sys.stdout.write(text + ("\0" if self.options.null else "\n"))
 
     # -- Snippets.
 
@@ -290,10 +292,22 @@ class View:
 # --- Queries.
 
 
+def is_text(query):
+    """Whether the bytes that were given as a query are UTF-8: others stand in it as lone surrogates."""
+    try:
+        query.encode()
+    except UnicodeEncodeError:
+        return False
+    return True
+
+
 def answer(index, query, view, limit, top=None):
     """Prints the reply to a query, where `top` is given so many of the best, and answers the status."""
     options = view.options
     try:
+        if not is_text(query):
+            # As the program says it: in a query of the client these bytes would stand for others.
+            raise NotUtf8("! not UTF-8")
         if options.count and not view.places.has_parts():
             found = index.count(query)
             print(found, flush=True)

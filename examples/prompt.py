@@ -26,7 +26,13 @@ class Prompt:
     def __init__(self, tool, history, words):
         self.tool = tool
         self.words = words
+        if sys.stdin is None:
+            # It was closed: there are no lines.
+            sys.stdin = open(os.devnull)
         self.typed = sys.stdin.isatty()
+        # What is no text stays the bytes that it is. What nobody types is in the program's own encoding, and ends where its lines do.
+        as_they_are = {} if self.typed else {"encoding": "utf-8", "newline": "\n"}
+        sys.stdin.reconfigure(errors="surrogateescape", **as_they_are)
         self.path = history_path(history) if self.typed and readline else ""
 
     def __enter__(self):
@@ -56,7 +62,7 @@ class Prompt:
         return fitting[state] if state < len(fitting) else None
 
     def ask(self, text):
-        """A line, None at the end. The text is shown where somebody types."""
+        """A line, None at the end. The text is shown where somebody types. Bytes that are no text are lone surrogates, as in names of files."""
         try:
             return input(text if self.typed else "")
         except EOFError:

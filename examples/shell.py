@@ -8,14 +8,13 @@ asked.
 """
 
 import argparse
-import re
 import sys
 
 from importing import Index
 from prompt import Prompt
 from terminal import printable, quiet_end
 
-from buncocedar import Error, Refused
+from buncocedar import Error, QueryFault, Refused
 
 HELP = """add NAME            stores a document: title and body are asked for
 delete NAME         takes a document out of all answers
@@ -56,16 +55,6 @@ class Shell:
                 print(HELP)
             elif self.prompt.typed and word == "add" and "\t" not in rest:
                 self.add(rest.strip())
-            elif word == "search":
-                self.search(rest)
-            elif word == "top" and (asked := re.fullmatch("([1-9][0-9]*) (.*)", rest)):
-                self.top(int(asked[1]), asked[2])
-            elif word == "explain":
-                print(shown(self.index.explain(rest)))
-            elif word == "count":
-                print(f"found {self.index.count(rest)}")
-            elif word == "open":
-                print(f"cursor {self.index.cursor(rest).number}")
             else:
                 self.say(line)
         except Refused as refusal:
@@ -78,28 +67,17 @@ class Shell:
         title = self.prompt.ask("title> ")
         body = None if title is None else self.prompt.ask("body> ")
         if body is not None:
-            number = self.index.add(name, title, body)
-            print(f"added {number}" if number.replaced is None else f"replaced {number.replaced} by {number}")
-
-    def search(self, query):
-        found = 0
-        for number, name in self.index.search(query):
-            found += 1
-            print(f"{number} {name}")
-        print(f"found {found}")
-
-    def top(self, count, query):
-        best = self.index.top(query, count)
-        for number, name, score in best.answers:
-            print(f"{number} {name} {score}")
-        print(f"found {best.found}")
+            # A tab would end the title.
+            title = title.replace("\t", " ")
+            self.say(f"add {name}\t{title}\t{body}")
 
     def say(self, line):
-        """Any other line, as it is."""
-        for reply in self.index.each_answer(line.encode(errors="replace")):
-            if reply.startswith("! "):
-                raise Refused(reply)
-            print(shown(reply))
+        """Prints the reply to a line, whose bytes the program gets as they are."""
+        reply = self.index.send_line(line.encode(errors="surrogateescape"))
+        for text in reply.each_line():
+            if text.startswith("! "):
+                raise reply.error if isinstance(reply.error, QueryFault) else Refused(text)
+            print(shown(text))
 
 
 def opened(options):
@@ -140,6 +118,8 @@ def main():
     parser.add_argument("--create", action="store_true", help="make the index where there is none")
     parser.add_argument("--wait", metavar="SECONDS", type=float, default=10.0, help="how long to wait for who has it open")
     options = parser.parse_args()
+    # What a locale can't write ends no run, and another program gets the bytes of the replies.
+    sys.stdout.reconfigure(**({"errors": "replace"} if sys.stdout.isatty() else {"encoding": "utf-8"}))
     try:
         with Prompt("shell", "shell_history", WORDS) as prompt, quiet_end():
             return run(options, prompt)

@@ -270,6 +270,10 @@ class Calls(Case):
             ]:
                 self.assertEqual(index.answer(line), reply, line)
                 self.assertEqual(list(index.each_answer(line)), reply, line)
+            for line in (b"search fault 8 Paren )", b"top 5 fault 8 Paren )", b"explain fault 8 Paren )"):
+                with self.assertRaises(buncocedar.QueryFault) as raised:
+                    index.send_line(line).result()
+                self.assertEqual((raised.exception.query, raised.exception.place), ("fault 8 Paren )", 8))
 
     def test_other_types(self):
         with self.fake() as index:

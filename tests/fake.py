@@ -117,7 +117,10 @@ class Store:
         """The reply lines; the line is done first."""
         if len(line) > 262_143:
             return ["! line too long"]
-        word, blank, rest = line.decode().partition(" ")
+        try:
+            word, blank, rest = line.decode().partition(" ")
+        except UnicodeDecodeError:
+            return ["! not UTF-8"]
         if word in ("flush", "merge", "step", "open", "fetch", "close", "top", "dump") and DO.get("old"):
             return ["! unknown command"]
         if word == "add":
@@ -134,7 +137,7 @@ class Store:
             return [f"deleted {number}"]
         if word == "top":
             count, _, query = rest.partition(" ")
-            if not (count.isdecimal() and 1 <= int(count) <= 1000):
+            if not (count.isdecimal() and len(count) < 5 and 1 <= int(count) <= 1000):
                 return ["! bad line"]
             if not query.startswith("fault "):
                 return self.best(int(count), query) + [f"found {len(self.found(query))}"]

@@ -1,5 +1,5 @@
 #!/usr/bin/env python3
-"""Tests of `examples/shell.py`, at a terminal and behind a pipe.
+"""Tests of `examples/shell.py`, at a terminal and behind a pipe, and of what `examples/find.py` takes and gives there.
 
 usage: tests/shell.py [--program PATH]
 
@@ -18,18 +18,18 @@ import unittest
 import fake
 
 TOP = os.path.dirname(os.path.dirname(os.path.abspath(__file__)))
-SHELL = os.path.join(TOP, "examples", "shell.py")
+SHELL, FIND, FOLDER = (os.path.join(TOP, "examples", f"{name}.py") for name in ("shell", "find", "folder"))
 PROGRAM = None
 PATIENCE = 300  # seconds after which what should have come counts as missing
 
 
 class Terminal:
-    """The shell at a terminal of its own."""
+    """The shell, or another script, at a terminal of its own."""
 
-    def __init__(self, words, environment):
+    def __init__(self, words, environment, script=SHELL):
         self.process, self.file = pty.fork()
         if self.process == 0:
-            os.execve(sys.executable, [sys.executable, SHELL, *words], {**environment, "TERM": "dumb"})
+            os.execve(sys.executable, [sys.executable, script, *words], {**environment, "TERM": "dumb"})
         self.seen = ""
 
     def wait_for(self, text):
@@ -46,10 +46,10 @@ class Terminal:
         os.write(self.file, text.encode())
 
     def status(self):
-        """The exit status, once it has ended."""
+        """The exit status, once it has ended. What it wrote before is in `seen`."""
         try:
-            while os.read(self.file, 4096):
-                pass
+            while data := os.read(self.file, 4096):
+                self.seen += data.decode(errors="replace")
         except OSError:
             pass
         _, status = os.waitpid(self.process, 0)
@@ -70,16 +70,16 @@ class Case(unittest.TestCase):
         terminal.wait_for("alta> ")
         return terminal
 
-    def piped(self, text, *words):
+    def piped(self, text, *words, script=SHELL, **variables):
+        """Its status and what it wrote; lone surrogates in the text and there are bytes that are no text."""
         done = subprocess.run(
-            [sys.executable, SHELL, self.path, *words],
-            input=text,
-            env=self.environment,
+            [sys.executable, script, self.path, *words],
+            input=text.encode(errors="surrogateescape"),
+            env={**self.environment, **variables},
             capture_output=True,
-            text=True,
             timeout=PATIENCE,
         )
-        return done.returncode, done.stdout, done.stderr
+        return done.returncode, *(data.decode(errors="surrogateescape") for data in (done.stdout, done.stderr))
 
 
 class AtATerminal(Case):
@@ -144,6 +144,21 @@ class AtATerminal(Case):
         self.assertEqual(terminal.status(), 0)
 
 
+    def test_names_of_files(self):
+        # None steers the terminal, also where it has colours; another program gets the bytes.
+        folder = os.path.join(os.path.dirname(self.path), "notes")
+        os.mkdir(folder)
+        with open(os.path.join(folder, "\x1b]0;x\x07"), "w") as file:
+            file.write("fox")
+        self.assertEqual(self.piped("", folder, script=FOLDER)[0], 0)
+        for more in (["--paths"], ["--context"], ["--names"], []):
+            find = Terminal([self.path, "fox", "--color", "always", "--no-pager", *more], self.environment, FIND)
+            self.assertEqual(find.status(), 0)
+            self.assertNotIn("\x1b]", find.seen)
+            self.assertEqual("notes/\ufffd]0;x\ufffd" in find.seen, "--paths" in more or "--context" in more, find.seen)
+        self.assertEqual(self.piped("", "fox", "--paths", script=FIND)[:2], (0, f"{folder}/\x1b]0;x\x07\n"))
+
+
 class BehindAPipe(Case):
     def test_lines(self):
         text = "add a\tRed Fox\tthe quick red fox\nsearch fox\n\ncount fox\nstats\nexplain fox\ntop 1 fox\ndump\n"
@@ -154,15 +169,47 @@ class BehindAPipe(Case):
         self.assertEqual(out.split("\n")[-5:-1], ["1 a 5", "found 1", "add a\tred fox\tthe quick red fox", "dumped 1"])
 
     def test_refusals(self):
-        for line, said in [("quit", "! unknown command"), ("delete b", "! no such document"), ("close 7", "! no such cursor"), ("top 0 x", "! bad line")]:
+        for line, said in [
+            ("quit", "! unknown command\n"),
+            ("delete b", "! no such document\n"),
+            ("close 7", "! no such cursor\n"),
+            ("top 0 x", "! bad line\n"),
+            (f"top {'9' * 5_000} x", "! bad line\n"),
+            ("delete \udce9", "! not UTF-8\n"),
+            ("what \udce9", "! not UTF-8\n"),
+            ("count \udce9", "! not UTF-8\n"),
+            ("add a\tcaf\udce9\t", "! not UTF-8\n"),
+            ("count fault 15 Paren )", f"\n  fault 15 Paren )\n{' ' * 17}^\n"),
+            ("top 3 fault 15 Paren )", f"\n  fault 15 Paren )\n{' ' * 17}^\n"),
+        ]:
             status, out, err = self.piped(f"{line}\nstats\n", "--create")
-            self.assertEqual((status, out), (1, "documents 0 words 0 next 1\n"))
-            self.assertIn(said, err)
+            self.assertEqual((status, out), (1, "documents 0 words 0 next 1\n"), line)
+            self.assertTrue(err.endswith(said), err)
+
+    def test_bytes(self):
+        # They reach the program as they are, whatever the locale says, and so do its own the reader.
+        lines = ["add a\t\tx", "add b\t\tcaf\udce9", "add c\tcaf\u00e9\tone\rdelete a", "count caf\u00e9 one", "count x", "dump"]
+        wanted = ["added 1", "added 2", "found 1", "found 1", "add a\t\tx", "add c\tcaf\u00e9\tone delete a", "dumped 2"]
+        for name, value in [("LC_ALL", "C"), ("LC_ALL", "C.UTF-8")] + [("PYTHONIOENCODING", it) for it in ("utf-8:strict", "latin-1", "ascii")]:
+            status, out, err = self.piped("\n".join(lines), "--create", **{name: value})
+            self.assertEqual((status, out.split("\n"), err), (1, [*wanted, ""], "! not UTF-8\n"), value)
+            os.remove(self.path)
+
+    def test_queries_of_find(self):
+        self.piped("add a\t\tcaf\nadd b\t\tcaf\u00e9\n", "--create")
+        for variables in ({"LC_ALL": "C"}, {"PYTHONIOENCODING": "utf-8:strict"}, {"PYTHONIOENCODING": "latin-1"}):
+            status, out, err = self.piped("caf\udce9\ncaf\u00e9\n", script=FIND, **variables)
+            self.assertEqual((status, out, err), (0, "2 b\nfound 1\n", "! not UTF-8\n"), variables)
+        status, out, err = self.piped("", b"caf\xe9", script=FIND)
+        self.assertEqual((status, out, err), (2, "", "! not UTF-8\n"))
 
     def test_what_ends_it(self):
         status, _, err = self.piped("stats\n")
         self.assertEqual(status, 3)
         self.assertIn("no such file", err)
+        words = ["sh", "-c", 'exec "$@" <&-', "sh", sys.executable, SHELL, self.path, "--create"]
+        done = subprocess.run(words, env=self.environment, capture_output=True, timeout=PATIENCE)
+        self.assertEqual((done.returncode, done.stdout, done.stderr), (0, b"", b""))
 
 
 def main():

@@ -960,7 +960,8 @@ class Index:
             raise UnknownCommand("! unknown command") if _is_utf8(line) else NotUtf8("! not UTF-8")
         last, lines = _FORMS[word]
         explains = word == b"explain"
-        return self._send(line, word.decode(), last, _whole_line, lines, "", b"stats\n" if explains else b"", explains)
+        query = _query_in(line, word)
+        return self._send(line, word.decode(), last, _whole_line, lines, query, b"stats\n" if explains else b"", explains)
 
     # -- The end.
 
@@ -1196,6 +1197,13 @@ _FORMS = {
     b"merge": (_OK, None),
     b"step": (_OK, None),
 }
+
+
+def _query_in(line, word):
+    """The query of a line with this word; of one that has none, nothing."""
+    if word not in (b"search", b"top", b"count", b"explain", b"open"):
+        return ""
+    return line.split(b" ", 2 if word == b"top" else 1)[-1].decode(errors="replace")
 
 
 def _is_utf8(line):
