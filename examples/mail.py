@@ -23,8 +23,15 @@ from importing import BAD_USE, TEXT_LIMIT, Document, Text, Unfit, Unseen, argume
 from stamps import Place, digest, name_of, numbered, part_of, stem_of
 from terminal import printable, write
 
-DATED = re.compile(rb"From .* (Mon|Tue|Wed|Thu|Fri|Sat|Sun)\b.*\d:\d\d")
+DATED = re.compile(
+    rb"From .* (?:Mon|Tue|Wed|Thu|Fri|Sat|Sun)\b.{0,9}\b(?:Jan|Feb|Mar|Apr|May|Jun|Jul|Aug|Sep|Oct|Nov|Dec)\b.{0,24}\d:\d\d"
+)
 FIELD = re.compile(rb"([!-9;-~]+)[ \t]*:")
+# What a header begins with, as a line of a text hardly does.
+FIRST = re.compile(
+    rb"(?i)(Bcc|Cc|Date|Delivered-To|Envelope-To|From|In-Reply-To|Message-ID|MIME-Version|Newsgroups|Path|Received|References|"
+    rb"Reply-To|Return-Path|Sender|Status|Subject|To|(ARC|Content|DKIM|List|Resent|X)-[!-9;-~]+)[ \t]*:"
+)
 NOTED = re.compile(rb"(?i)(Status|X-Status|X-Keywords|X-UID|X-Mozilla-[^:]*|Content-Length|Lines)[ \t]*:")
 
 
@@ -34,7 +41,7 @@ NOTED = re.compile(rb"(?i)(Status|X-Status|X-Keywords|X-UID|X-Mozilla-[^:]*|Cont
 def split(lines):
     """The messages of an mbox, each with the place of its first byte; what stands before the first one is given as one too.
 
-    A message begins behind a line `From ` behind an empty line, where it has a date or a header field is next.
+    A message begins behind a line `From ` behind an empty line, where it has a date or a field that begins headers is next.
     """
     message = []
     begin = at = 0
@@ -43,7 +50,7 @@ def split(lines):
     line = next(lines)
     for following in lines:
         at += len(line)
-        if blank and line.startswith(b"From ") and (DATED.match(line) or FIELD.match(following)):
+        if blank and line.startswith(b"From ") and (DATED.match(line) or FIRST.match(following)):
             if message:
                 yield begin, b"".join(message)
             begin, message = at, []

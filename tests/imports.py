@@ -577,11 +577,17 @@ class Mail(Case):
             (b"", []),
             (b"From a Mon Jan 1 00:00\nA: b\n\nc\n", [b"A: b\n\nc\n"]),
             (b"From a Mon Jan 1 00:00\nA: b\n\nFrom here on\nit is text\n", [b"A: b\n\nFrom here on\nit is text\n"]),
-            (b"From a\nA: b\n\nc\nFrom d\nE: f\n", [b"A: b\n\nc\nFrom d\nE: f\n"]),
-            (b"From a\nA: b\n\nc\n\nFrom d\nE: f\n\ng", [b"A: b\n\nc\n\n", b"E: f\n\ng"]),
-            (b"From a\r\nA: b\r\n\r\nc\r\n\r\nFrom d\r\nE: f\r\n", [b"A: b\r\n\r\nc\r\n\r\n", b"E: f\r\n"]),
+            (b"From a\nTo: b\n\nc\nFrom d\nTo: f\n", [b"To: b\n\nc\nFrom d\nTo: f\n"]),
+            (b"From a\nTo: b\n\nc\n\nFrom d\nX-E: f\n\ng", [b"To: b\n\nc\n\n", b"X-E: f\n\ng"]),
+            (b"From a\r\nTo: b\r\n\r\nc\r\n\r\nFrom d\r\nTo: f\r\n", [b"To: b\r\n\r\nc\r\n\r\n", b"To: f\r\n"]),
             (b"A: b\n\nc\n", [b"A: b\n\nc\n"]),
-            (b"junk\n\nFrom a\nA: b\n", [b"junk\n\n", b"A: b\n"]),
+            (b"junk\n\nFrom a\nsubject : b\n", [b"junk\n\n", b"subject : b\n"]),
+            # Paragraphs of a text are no beginnings.
+            (b"A: b\n\nFrom Berlin we go to\nParis: the city\n", [b"A: b\n\nFrom Berlin we go to\nParis: the city\n"]),
+            (b"A: b\n\nFrom the page\nhttp://x/y\n", [b"A: b\n\nFrom the page\nhttp://x/y\n"]),
+            (b"A: b\n\nFrom now on, Monday at 10:30\n\n", [b"A: b\n\nFrom now on, Monday at 10:30\n\n"]),
+            (b"A: b\n\nFrom now on each Mon at 10:30\n", [b"A: b\n\nFrom now on each Mon at 10:30\n"]),
+            (b"A: b\n\nFrom a Mon, 1 Jan 2024 00:00:00 +0000\nC: d\n", [b"A: b\n\n", b"C: d\n"]),
             (b"From a Mon Jan 1 00:00\n\0broken\nA: b\n", [b"\0broken\nA: b\n"]),
         ]:
             found = list(mail.split(archive.splitlines(True)))
