@@ -19,8 +19,8 @@ import os
 import re
 import sys
 
-from importing import BAD_USE, TEXT_LIMIT, Document, Text, Unfit, Unseen, arguments, bring_as
-from stamps import Place, digest, name_of, numbered, part_of, stem_of
+from importing import BAD_USE, TEXT_LIMIT, Document, NoText, Text, Unfit, Unseen, arguments, bring_as
+from stamps import Place, digest, name_of, numbered, part_of, place_of, stem_of
 from terminal import printable, write
 
 DATED = re.compile(
@@ -33,6 +33,8 @@ FIRST = re.compile(
     rb"Reply-To|Return-Path|Sender|Status|Subject|To|(ARC|Content|DKIM|List|Resent|X)-[!-9;-~]+)[ \t]*:"
 )
 NOTED = re.compile(rb"(?i)(Status|X-Status|X-Keywords|X-UID|X-Mozilla-[^:]*|Content-Length|Lines)[ \t]*:")
+
+LOOKS = 4  # times that a Maildir is listed at most
 
 
 # --- Archives.
@@ -63,16 +65,45 @@ def split(lines):
 
 
 def maildir(top):
-    """The messages of a Maildir and of the folders in it: the path of each below it, and its bytes or why there are none."""
-    unread = []
-    for folder, folders, names in os.walk(top, onerror=unread.append):
-        folders.sort()
-        if os.path.basename(folder) in ("cur", "new"):
+    """The messages of a Maildir and of the folders in it: the path of each below it, and its bytes or why there are none.
+
+    Who reads mail meanwhile moves and renames messages. So the folders are listed again until nothing in them is new, a few times
+    at most; what is missing then, or cannot be read, comes last.
+    """
+    met = set()
+    for _ in range(LOOKS):
+        faults, fresh = {}, set()
+        for mark, path in message_files(top, faults):
+            if mark not in met:
+                raw = content_of(path)
+                if isinstance(raw, Unfit):
+                    faults[path] = raw
+                else:
+                    fresh.add(mark)
+                    yield os.path.relpath(path, top), raw
+        if not fresh:
+            break
+        met |= fresh
+    for path, fault in faults.items():
+        yield os.path.relpath(path, top), fault
+
+
+def message_files(top, faults):
+    """The files of the messages of a Maildir and of the folders in it, each behind what stays of its path when it is moved from
+    `new` to `cur` and marked as read. What is not looked into goes to the faults.
+    """
+    is_maildir = False
+    for folder, folders, names in os.walk(top, onerror=lambda error: faults.update({error.filename: Unseen(error.strerror)})):
+        # What is moved from new to cur meanwhile stands in one of the lists, or in both.
+        folders.sort(key=lambda name: (name == "cur", name))
+        links = filter(os.path.islink, (os.path.join(folder, name) for name in folders))
+        faults.update((path, NoText("a link to a folder")) for path in links)
+        if os.path.basename(os.path.abspath(folder)) in ("cur", "new"):
+            is_maildir = True
             for name in sorted(names):
-                path = os.path.join(folder, name)
-                yield os.path.relpath(path, top), content_of(path)
-    for error in unread:
-        yield os.path.relpath(error.filename, top), Unseen(error.strerror)
+                yield (os.path.dirname(folder), name.partition(":")[0]), os.path.join(folder, name)
+    if not is_maildir:
+        faults.setdefault(top, Unseen("no Maildir: it has no folder cur or new"))
 
 
 def content_of(path):
@@ -259,7 +290,7 @@ def documents(messages):
     """A document for each message."""
     for place, raw in messages:
         if isinstance(raw, Unfit):
-            yield Document(f"the message {place}", place.encode(), raised(raw))
+            yield Document(place_of(place).path, place.encode(), raised(raw))
             continue
         message = Message(raw)
         if message.found:

@@ -720,6 +720,55 @@ class Mail(Case):
         self.assertIn("1 added", self.run_script("mail.py", self.path, path))
         self.assertEqual(self.bodies()["eml@x"], "From now on text")
 
+    def test_what_moves_in_a_maildir_meanwhile(self):
+        files = ("new/a", "new/b", "cur/c:2,", ".sub/cur/d:2,", ".sub/new/e")
+        moves = [
+            ("new/b", "cur/b:2,S"),
+            ("cur/c:2,", "cur/c:2,S"),
+            ("cur/c:2,", ".sub/cur/c:2,"),
+            (".sub/cur/d:2,", "cur/d:2,"),
+            (".sub/new/e", ".sub/cur/e:2,"),
+            ("new/b", None),
+        ]
+        read = mail.content_of
+        for number, ((old, new), moment) in enumerate(itertools.product(moves, range(len(files)))):
+            for name in files:
+                self.write(f"{number}/{name}", name[-1] if name[-1] != "," else name[-4])
+            top = self.at(str(number))
+            reads = []
+
+            def content_of(path):
+                reads.append(path)
+                if len(reads) == moment + 1:
+                    os.rename(os.path.join(top, old), os.path.join(top, new) if new else self.at("gone"))
+                return read(path)
+
+            with mock.patch.object(mail, "content_of", content_of):
+                found = dict(mail.maildir(top))
+            wanted = {b"a", b"b", b"c", b"d", b"e"} - ({b"b"} if new is None else set())
+            self.assertLessEqual(wanted, set(found.values()), (old, new, moment))
+            self.assertLessEqual(set(found.values()), {b"a", b"b", b"c", b"d", b"e"}, (old, new, moment))
+
+    def test_what_of_a_maildir_cannot_be_seen(self):
+        message = b"Message-ID: <%d@x>\n\ntext\n"
+        self.write("Mail/cur/1:2,", message % 1)
+        self.write("Mail/new/2", message % 2)
+        self.write("elsewhere/cur/3", message % 3)
+        os.symlink("nowhere", self.at("Mail/cur/4:2,S"))
+        os.symlink(self.at("elsewhere"), self.at("Mail/.linked"))
+        said = self.run_script("mail.py", "--prune", "--verbose", self.path, self.at("Mail"), expect=1)
+        self.assertIn("4 documents: 2 added, 1 passed over, 1 refused\n", said)
+        self.assertIn("refused cur/4:2,S: No such file or directory\n", said)
+        self.assertIn("passed over '.linked': a link to a folder\n", said)
+        self.assertIn("nothing was pruned", said)
+        # The folder of messages itself, with the slash that a shell puts behind it.
+        self.assertIn("1 added", self.run_script("mail.py", self.at("y.alta"), self.at("Mail/new/")))
+        # A folder that is no Maildir is no empty one.
+        self.write("boxes/inbox", LETTER % (b"one", b"one", b"one"))
+        for words in ((), ("--prune",)):
+            said = self.run_script("mail.py", *words, self.at("z.alta"), self.at("boxes"), expect=1)
+            self.assertIn("refused .: no Maildir: it has no folder cur or new\n", said)
+
 
 class Packages(Case):
     def test_stanzas(self):
