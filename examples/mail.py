@@ -2,16 +2,18 @@
 """Brings the messages of a mail archive into an index: an mbox file, a Maildir folder, or one message.
 
 The name is the Message-ID, made to fit the rule on names; the title is the Subject; the body begins with lines `From: ..`,
-`To: ..`, `Cc: ..`, `Date: 2024-01-31 20240131` and `Attachment: ..`, and then has the text of the plain text parts, or of the
-HTML parts where there are none. What a mail reader notes in a message, as that it was read, is no change.
+`To: ..`, `Cc: ..`, `Date: 2024-01-31 20240131` and `Attachment: ..`, and then has the texts of its parts; where a text is there
+in several forms, the HTML only if the plain one is blank. What a mail reader notes in a message, as that it was read, is no change.
 
 With --show the words are ARCHIVE NAME, and the message of this name is printed; with --raw as it stands in the archive.
 """
 
+import codecs
 import datetime
 import email
 import email.errors
 import email.header
+import email.policy
 import email.utils
 import html.parser
 import itertools
@@ -19,9 +21,9 @@ import os
 import re
 import sys
 
-from importing import BAD_USE, TEXT_LIMIT, Document, NoText, Text, Unfit, Unseen, arguments, bring_as
+from importing import BAD_USE, STOPPED, TEXT_LIMIT, Document, NoText, Text, Unfit, Unseen, arguments, bring_as
 from stamps import Place, digest, name_of, numbered, part_of, place_of, stem_of
-from terminal import printable, write
+from terminal import printable, quiet_end, write
 
 DATED = re.compile(
     rb"From .* (?:Mon|Tue|Wed|Thu|Fri|Sat|Sun)\b.{0,9}\b(?:Jan|Feb|Mar|Apr|May|Jun|Jul|Aug|Sep|Oct|Nov|Dec)\b.{0,24}\d:\d\d"
@@ -29,12 +31,36 @@ DATED = re.compile(
 FIELD = re.compile(rb"([!-9;-~]+)[ \t]*:")
 # What a header begins with, as a line of a text hardly does.
 FIRST = re.compile(
-    rb"(?i)(Bcc|Cc|Date|Delivered-To|Envelope-To|From|In-Reply-To|Message-ID|MIME-Version|Newsgroups|Path|Received|References|"
-    rb"Reply-To|Return-Path|Sender|Status|Subject|To|(ARC|Content|DKIM|List|Resent|X)-[!-9;-~]+)[ \t]*:"
+    rb"(?i)(Bcc|Cc|Date|Delivered-To|Envelope-To|From|In-Reply-To|Message-ID|MIME-Version|Newsgroups|Received|References|"
+    rb"Reply-To|Return-Path|Sender|Subject|To|(ARC|Content|DKIM|List|Resent|X)-[!-9;-~]+)[ \t]*:"
 )
-NOTED = re.compile(rb"(?i)(Status|X-Status|X-Keywords|X-UID|X-Mozilla-[^:]*|Content-Length|Lines)[ \t]*:")
+NOTED = re.compile(
+    rb"(?i)(Status|X-Status|X-Keywords|X-UID|X-UIDL|X-IMAP|X-IMAPbase|X-Label|X-TUID|X-Gmail-Labels|X-Evolution|X-Evolution-[^:]*|"
+    rb"X-KMail-[^:]*|X-Mozilla-[^:]*|Content-Length|Lines)[ \t]*:"
+)
+WORD = r"=\?[^?\s]*\?[bBqQ]\?.*?\?="
+WORDS = re.compile(rf"{WORD}(?:\s*{WORD})*")
+# Codecs of charsets that say nothing of the letters beyond ASCII, or whose decoding takes quadratic time.
+UNUSED_CODECS = ("ascii", "idna", "punycode")
+# What the email package raises at parameters that contradict each other, and at charsets of no known form.
+ODD = (LookupError, TypeError, ValueError)
+COMMENT = re.compile("<!--(?:-?>|.*?-->)", re.DOTALL)
+DECLARATION = re.compile("<[!?][^>]*>")
+HUGE_NUMBER = re.compile("&#[0-9]{20,};?")
+META_CHARSET = re.compile(rb"(?i)<meta[^>]*charset\s*=\s*[\"']?(?!utf-?16|utf-?32)([\w:.-]+)")
+META_LIMIT = 1024  # bytes of an HTML part in which its charset is looked for
+# Tags that may stand inside of a word.
+INLINE = frozenset(
+    "a abbr acronym b bdi bdo big cite code del dfn em font i ins kbd mark nobr q s samp small span strike strong sub sup tt u var "
+    "wbr".split()
+)
+
+# What goes into a stamp besides the message: another one, and all messages are made anew once.
+FORM = b"parts and forms\n"
 
 LOOKS = 4  # times that a Maildir is listed at most
+PARAMETERS = 64  # how many a field may have: of more the email package takes quadratic time
+DATE_LIMIT = 256  # characters of a field that are looked at for a date
 
 
 # --- Archives.
@@ -89,8 +115,9 @@ def maildir(top):
 
 
 def message_files(top, faults):
-    """The files of the messages of a Maildir and of the folders in it, each behind what stays of its path when it is moved from
-    `new` to `cur` and marked as read. What is not looked into goes to the faults.
+    """The files of the messages of a Maildir and of the folders in it, each behind what of its path stays as it is read.
+
+    What is not looked into goes to the faults.
     """
     is_maildir = False
     for folder, folders, names in os.walk(top, onerror=lambda error: faults.update({error.filename: Unseen(error.strerror)})):
@@ -126,7 +153,7 @@ def messages(path):
                 yield Place("", begin, len(raw)).spelled(), raw
 
 
-# --- Messages.
+# --- Headers, and texts.
 
 
 def parted(raw):
@@ -137,16 +164,16 @@ def parted(raw):
     for line in head.splitlines(True):
         if line[:1] in (b" ", b"\t"):
             if found:
-                found[-1] += line
+                found[-1].append(line)
         elif FIELD.match(line):
-            found.append(line)
-    return found, body
+            found.append([line])
+    return [b"".join(lines) for lines in found], body
 
 
 def values(found, name):
     """The values of the fields of this name, each on one line."""
     return [
-        re.sub(rb"[ \t]*\r?\n[ \t]*", b" ", rest).strip()
+        b" ".join(map(bytes.strip, rest.splitlines())).strip()
         for front, _, rest in (field.partition(b":") for field in found)
         if front.strip().lower() == name
     ]
@@ -157,11 +184,22 @@ def value(found, name):
     return next(iter(values(found, name)), b"")
 
 
+def codec_of(charset):
+    """The name of the codec of a charset, None where there is none that is used."""
+    try:
+        name = codecs.lookup(charset).name if charset else None
+    except (LookupError, ValueError):
+        return None
+    return None if name in UNUSED_CODECS else name
+
+
 def decoded(data, charset=None):
     """The bytes as text: in this charset where it is known, and else UTF-8, or Latin-1 where they are none."""
-    if charset and charset.lower() not in ("us-ascii", "ascii", "unknown-8bit"):
+    codec = codec_of(charset)
+    if codec:
         try:
-            return data.decode(charset, "replace")
+            # Some give halves of characters, which nothing can be encoded with.
+            return re.sub("[\ud800-\udfff]", "\ufffd", data.decode(codec, "replace"))
         except (LookupError, ValueError):
             pass
     try:
@@ -171,24 +209,27 @@ def decoded(data, charset=None):
 
 
 def heading(data):
-    """A header's value as text, with its encoded words decoded."""
+    """A header's value as text, with its encoded words decoded.
+
+    Only the words are given to `decode_header`: of what stands between them it would read a backslash as an escape.
+    """
     text = decoded(data)
+    # Behind the last end of a word each beginning of one would be looked along to the end.
+    end = text.rfind("?=") + 2
+    return WORDS.sub(lambda words: decoded_words(words[0]), text[:end]) + text[end:]
+
+
+def decoded_words(words):
+    """The text of encoded words that stand one behind the other; as they stand where they cannot be decoded."""
     try:
-        pieces = email.header.decode_header(text)
+        pieces = email.header.decode_header(words)
     except (email.errors.MessageError, ValueError):
-        return text
-    return "".join(heading_piece(piece, charset) for piece, charset in pieces)
-
-
-def heading_piece(piece, charset):
-    """A piece of a header's value, as `decode_header` gives it: an encoded word, or what stands between two."""
-    if isinstance(piece, str):
-        return piece
-    return decoded(piece, charset) if charset else piece.decode("raw-unicode-escape", "replace")
+        return words
+    return "".join(piece if isinstance(piece, str) else decoded(piece, charset and charset.partition("*")[0]) for piece, charset in pieces)
 
 
 class Shown(html.parser.HTMLParser):
-    """The text of an HTML part, without scripts and styles."""
+    """The text of an HTML part, without scripts and styles, with a blank for each tag that parts words."""
 
     def __init__(self):
         super().__init__()
@@ -196,10 +237,17 @@ class Shown(html.parser.HTMLParser):
         self.hidden = 0
 
     def handle_starttag(self, tag, attributes):
+        self.handle_tag(tag)
         self.hidden += tag in ("script", "style")
 
     def handle_endtag(self, tag):
+        self.handle_tag(tag)
         self.hidden -= tag in ("script", "style") and self.hidden > 0
+
+    def handle_tag(self, tag):
+        # A word processor has tags of its own, as `o:p` and `st1:place`.
+        if tag not in INLINE and ":" not in tag:
+            self.pieces.append(" ")
 
     def handle_data(self, data):
         if not self.hidden:
@@ -207,46 +255,111 @@ class Shown(html.parser.HTMLParser):
 
 
 def text_of_html(source):
+    """The text of an HTML part.
+
+    What has no end is text, and the parser is not asked about it, nor about comments, declarations and numbers that are no character:
+    it would take quadratic time, or give up.
+    """
+    source = HUGE_NUMBER.sub("\ufffd", source)
+    end = source.rfind("-->") + 3
+    source = COMMENT.sub("", source[:end]) + source[end:]
+    end = source.rfind(">") + 1
     reader = Shown()
+    reader.feed(DECLARATION.sub("", source[:end]))
+    reader.close()
+    reader.handle_data(html.unescape(source[end:]))
+    return "".join(reader.pieces)
+
+
+# --- The parts of a message.
+
+
+class AsItStands(email.policy.Compat32):
+    """Fields as they stand, where the email package would take bytes beyond ASCII for unknown ones."""
+
+    def header_fetch_parse(self, name, value):
+        return value
+
+
+def parsed(found, body):
+    """A message with its parts, as the email package reads it; as one text where that gives up. A field that it would take long for
+    is left out.
+    """
+    said = [field for field in found if field.count(b";") <= PARAMETERS]
     try:
-        reader.feed(source)
-        reader.close()
-    except (AssertionError, NotImplementedError):
-        # A declaration of an unknown form; the second of the two up to Python 3.9.
-        return re.sub("<[^>]*>", " ", source)
-    return " ".join(reader.pieces)
-
-
-def text_of(part):
-    """The text of a part, up to the limit, and how many bytes are beyond."""
-    data = part.get_payload(decode=True) or b""
-    try:
-        charset = part.get_content_charset()
-    except (LookupError, ValueError):
-        charset = None
-    text = decoded(data[:TEXT_LIMIT], charset)
-    if part.get_content_subtype() == "html":
-        text = text_of_html(text)
-    return text, max(0, len(data) - TEXT_LIMIT)
-
-
-def is_text(part):
-    return part.get_content_maintype() == "text" and not part.is_multipart() and not part.get_filename()
+        return email.message_from_bytes(b"".join(said) + b"\n" + body, policy=AsItStands())
+    except (*ODD, RecursionError):
+        return email.message_from_bytes(b"\n" + body)
 
 
 def file_name(part):
     """The name of a file that is attached, empty where a part is none."""
     try:
         name = part.get_filename()
-    except (LookupError, ValueError, TypeError):
+        return heading(name.encode(errors="surrogateescape")) if name else ""
+    except ODD:
         return ""
-    return heading(name.encode(errors="surrogateescape")) if name else ""
+
+
+def payload_of(part):
+    """The bytes of a part as they were before they were encoded for the way, or as they stand where that is not known."""
+    try:
+        return part.get_payload(decode=True) or b""
+    except ODD:
+        return part.get_payload().encode(errors="surrogateescape")
+
+
+def is_html(part):
+    return part.get_content_subtype().endswith("html")
+
+
+def charset_of(part, data):
+    """The charset that the header of a part names, or, of HTML, the part itself."""
+    try:
+        charset = part.get_content_charset()
+    except ODD:
+        charset = None
+    if codec_of(charset) is None and is_html(part):
+        meta = META_CHARSET.search(data[:META_LIMIT])
+        charset = meta[1].decode() if meta else charset
+    return charset
+
+
+def text_of(part):
+    """The text of a part, up to the limit, and how many bytes are beyond."""
+    data = payload_of(part)
+    text = decoded(data[:TEXT_LIMIT], charset_of(part, data))
+    if is_html(part):
+        text = text_of_html(text)
+    return text, max(0, len(data) - TEXT_LIMIT)
+
+
+def is_plain(part):
+    """Whether a part is a plain text that says something."""
+    return part.get_content_type() == "text/plain" and bool(text_of(part)[0].strip())
+
+
+def texts_in(part, is_whole=True):
+    """The parts of a part that are shown: each text that is no attached file, or is all of a message; of several forms of one text
+    not the HTML where the plain one says something. What should be cut into parts and is not is shown as it stands.
+    """
+    if not part.is_multipart():
+        is_text = part.get_content_maintype() in ("text", "multipart", "message")
+        return [part] if is_text and (is_whole or not file_name(part)) else []
+    is_message = part.get_content_maintype() == "message"
+    texts = [text for inner in part.get_payload() for text in texts_in(inner, is_message)]
+    has_plain = part.get_content_subtype() == "alternative" and any(map(is_plain, texts))
+    return [text for text in texts if not (has_plain and is_html(text))]
+
+
+# --- Messages.
 
 
 def date_of(text):
     """A message's date as it is written there, with a number that ranges of values find: `2024-01-31 20240131`."""
     try:
-        day = datetime.date(*email.utils.parsedate_tz(text)[:3]).isoformat()
+        # Of a long row of digits a number would take quadratic time.
+        day = datetime.date(*email.utils.parsedate_tz(text[:DATE_LIMIT])[:3]).isoformat()
     except (TypeError, ValueError, IndexError, OverflowError):
         return text
     return f"{day} {day.replace('-', '')}"
@@ -261,12 +374,9 @@ def head_of(found, attached):
 
 
 def text_of_message(found, body):
-    message = email.message_from_bytes(b"".join(found) + b"\n" + body)
-    parts = list(message.walk())
-    texts = [part for part in parts if is_text(part)]
-    plain = [part for part in texts if part.get_content_subtype() != "html"]
-    shown = [text_of(part) for part in plain or texts]
-    head = head_of(found, filter(None, map(file_name, parts)))
+    message = parsed(found, body)
+    shown = list(map(text_of, texts_in(message)))
+    head = head_of(found, filter(None, map(file_name, message.walk())))
     title = heading(value(found, b"subject"))
     return Text(title, "\n".join(text for text, _ in shown), sum(beyond for _, beyond in shown), head)
 
@@ -294,7 +404,7 @@ def documents(messages):
             continue
         message = Message(raw)
         if message.found:
-            yield Document(message.wanted, message.stamp.encode(), message.text, place)
+            yield Document(message.wanted, FORM + message.stamp.encode(), message.text, place)
         elif raw.strip():
             yield Document("text between messages", raw, raised(Unfit("it has no header")))
 
@@ -345,8 +455,9 @@ def show(archive, name, as_it_stands):
     for each, raw in named(archive):
         if each == name or part and stem_of(each) == part[0]:
             if as_it_stands:
-                sys.stdout.buffer.write(raw)
-                sys.stdout.buffer.flush()
+                with quiet_end():
+                    sys.stdout.buffer.write(raw)
+                    sys.stdout.buffer.flush()
             else:
                 text = Message(raw).text()
                 shown = f"Subject: {text.title}\n{text.head}\n\n{text.body.rstrip()}\n"
@@ -366,7 +477,11 @@ def main():
         print(f"mail: {archive}: there is none", file=sys.stderr)
         return BAD_USE
     if options.show:
-        return show(archive, options.archive, options.raw)
+        try:
+            return show(archive, options.archive, options.raw)
+        except OSError as error:
+            print(f"mail: {archive}: {error.strerror}", file=sys.stderr)
+            return STOPPED
     return bring_as("mail", options, os.path.realpath(archive), documents(messages(archive)))
 
 

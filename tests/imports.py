@@ -73,6 +73,22 @@ def read_all(terminal):
         shown += data
 
 
+@contextlib.contextmanager
+def processor_time(seconds):
+    """Fails where what is done inside takes more time of the processor, however busy that is."""
+
+    def fail(number, frame):
+        raise AssertionError(f"it takes more than {seconds} seconds")
+
+    before = signal.signal(signal.SIGPROF, fail)
+    signal.setitimer(signal.ITIMER_PROF, seconds, seconds)
+    try:
+        yield
+    finally:
+        signal.setitimer(signal.ITIMER_PROF, 0)
+        signal.signal(signal.SIGPROF, before)
+
+
 class Case(unittest.TestCase):
     program = FAKE
 
@@ -611,15 +627,30 @@ class Mail(Case):
             (b"Subject: =?no-such?q?a=FF?= b", b"", "a\u00ff b", ""),
             (b"Subject: =?utf-8?b?a?=", b"", "=?utf-8?b?a?=", ""),
             (b"Subject: caf\xc3\xa9 =?utf-8?q?=C3=A9?=", b"", "caf\u00e9 \u00e9", ""),
+            (b"Subject: =?utf-8?q?=C3=A9?= \\ud800 C:\\users", b"", "\u00e9 \\ud800 C:\\users", ""),
+            (b"Subject: =?utf-8?q?caf=C3?=\n =?UTF-8?q?=A9?= =?utf-8?b?YQ?=", b"", "caf\u00e9a", ""),
+            (b"Subject: =?utf-8?b?a?=, =?utf-8?q?b?=  c =?utf-8*en?q?what??= =??q?d?=", b"", "=?utf-8?b?a?=, b  c what?d", ""),
+            (b"Subject: =?unicode_escape?q?a=5Cud800?= =?x?q", b"", "a\ufffd =?x?q", ""),
+            (b"Subject: x\nContent-Type: text/plain; charset=unicode_escape", b"a \\ud800", "x", "a \ufffd"),
+            (b"Subject: x\nContent-Type: text/plain; charset=iso646-us", b"caf\xc3\xa9", "x", "caf\u00e9"),
             (b"X-Subject: x\nbroken line\n\0", b"text", "", "text"),
             (b"Subject: x\nContent-Type: text/plain; charset=no-such", b"caf\xc3\xa9", "x", "caf\u00e9"),
             (b"Subject: x\nContent-Type: text/plain; charset=hex", b"abc", "x", "abc"),
             (b'Subject: x\nContent-Type: text/plain; charset="a\0b"', b"abc", "x", "abc"),
             (b"Subject: x\nContent-Type: nonsense", b"abc", "x", "abc"),
             (b"Subject: x\nContent-Type: text/plain\nContent-Transfer-Encoding: base64", b"Y2Fmw6k", "x", "caf\u00e9"),
-            (b"Subject: x\nContent-Type: multipart/mixed", b"no parts", "x", ""),
+            (b"Subject: x\nContent-Type: multipart/mixed", b"no parts", "x", "no parts"),
             (html, b"<p>red <b>fox</b><script>no</script> &amp; dog", "h", "red fox & dog"),
             (html, b"<![unknown[ x ]]> fox", "h", "fox"),
+            (html, b"<b>H</b>ello wo<span>rld</span><o:p></o:p>s<br>a<td>b</td>c<P>d", "h", "Hello worlds a b c d"),
+            (html, b"<style><!-- p > a {} --></style><!--[if !mso]><!-->red<!--<![endif]--> <!-->fox<!-- no > dog", "h", "red fox dog"),
+            (html, b"a < b <!DOCTYPE x>c<?xml y?>d &lt;e&gt; &#" + b"9" * 5000 + b"; f <a href", "h", "a < b cd <e> \ufffd f <a href"),
+            (html, b"<meta charset='windows-1251'>\xec\xe8\xf0", "h", "\u043c\u0438\u0440"),
+            (html, b"<META content=\"text/html; charset = koi8-r\">\xcd\xc9\xd2", "h", "\u043c\u0438\u0440"),
+            (html + b"; charset=us-ascii", b"<meta charset=koi8-r>\xcd\xc9\xd2", "h", "\u043c\u0438\u0440"),
+            (html + b"; charset=utf-8", b"<meta charset=koi8-r>\xc3\xa9", "h", "\u00e9"),
+            (html, b"<meta charset=utf-16>\xc3\xa9", "h", "\u00e9"),
+            (b"Subject: x", b"<meta charset=koi8-r>\xe9", "x", "<meta charset=koi8-r>\u00e9"),
             (b"Subject: a\0b", b"c\0d", "a\0b", "c\0d"),
         ]:
             found = self.message(head, body)
@@ -627,15 +658,74 @@ class Mail(Case):
             self.assertEqual((crlf.title, crlf.body), (found.title, found.body), head)
             self.assertEqual((found.title, importing.spaced(found.body)), (title, text), head)
 
+    def test_no_message_takes_long(self):
+        many = 1 << 20
+        for raw in (
+            b"Message-ID: <a" + b" " * many + b"b>\n\nx",
+            b"Subject: x" + b"\n y" * many + b"\n\nx",
+            b"Subject: " + b"=?a?q?x" * many + b"\n\nx",
+            b"Date: 1 Jan " + b"9" * many + b"\n\nx",
+            b"Subject: x\n\nFrom" + b" Mon Jan" * many + b"\n\nx",
+            b"Content-Type: text/plain; charset=punycode\n\n" + b"a" * many + b"-" + b"b" * many,
+            b"Content-Type: text/plain; x=\"" + b";" * many + b"\n\nx",
+            b"Content-Type: multipart/mixed; boundary=b\n\n" + b"--b \n" * (many // 16) + b"--b" + b" " * many,
+            *(b"Content-Type: text/html\n\n" + tag * (many // 4) for tag in (b"<a ", b"<!--", b"<!-- >", b"<![if >", b"<a b='>", b"</a ", b"<")),
+            b"Content-Type: text/html\n\n&#" + b"9" * many + b";<script>" + b"</script" * many + b">",
+        ):
+            with self.subTest(raw=raw[:40]), processor_time(60):
+                for document in mail.documents((str(begin), part) for begin, part in mail.split(raw.splitlines(True))):
+                    self.assertNotEqual(document.load(), None)
+
     def test_parts(self):
-        parts = (
-            b"Subject: x\nContent-Type: multipart/mixed; boundary=b\n\n--b\n"
-            b"Content-Type: text/plain\n\nfirst\n--b\nContent-Type: text/html\n\n<p>no\n--b\n"
-            b"Content-Disposition: attachment; filename=a.txt\n\nattached\n--b\n"
-            b"Content-Type: image/png\n\nno\n--b\n\nlast\n--b--\n"
-        )
-        text = next(mail.documents([("", parts)])).load()
-        self.assertEqual((text.body, text.head), ("first\nlast", "Attachment: a.txt"))
+        def several(kind, *pieces, said=b""):
+            boundary = b"%d" % len(b"".join(pieces))
+            lines = b"".join(b"--%s\n%s\n" % (boundary, piece) for piece in pieces)
+            return b"Content-Type: multipart/%s; boundary=%s%s\n\nno\n%s--%s--\nno\n" % (kind, boundary, said, lines, boundary)
+
+        plain, html = b"Content-Type: text/plain\n\nfirst", b"Content-Type: text/html\n\n<p>fox"
+        blank, footer = b"Content-Type: text/plain; charset=utf-8\n\n \xc2\xa0\n", b"\nfooter"
+        file = b"Content-Disposition: attachment; filename=a.txt\n\nattached"
+        image = b"Content-Type: image/png\n\nno"
+        calendar = b"Content-Type: text/calendar\n\nBEGIN:VCALENDAR"
+        inner = b"Content-Type: message/rfc822; name=b.eml\n\nSubject: no\n\ninner"
+        odd_name = b"Content-Type: text/csv\nContent-Disposition: attachment; filename*=utf-8''a.csv; filename*0=b.csv\n\n1,2"
+        no_name = b"Content-Type: text/csv\nContent-Disposition: attachment; filename*=\"a\0b''c.csv\"\n\n1,2"
+        # What is odd in one part hides no other one, nor its own text.
+        for raw, text, head in [
+            (several(b"mixed", plain, html, file, image, b"\nlast"), "first fox last", "Attachment: a.txt"),
+            (several(b"alternative", plain, html), "first", ""),
+            (several(b"alternative", blank, html), "fox", ""),
+            (several(b"alternative", html), "fox", ""),
+            (several(b"alternative", plain, several(b"related", html, image)), "first", ""),
+            (several(b"alternative", several(b"mixed", blank, plain), several(b"alternative", html)), "first", ""),
+            (several(b"alternative", plain, html, calendar), "first BEGIN:VCALENDAR", ""),
+            (several(b"alternative", plain, b"Content-Type: text/x-amp-html\n\n<p>no", html), "first", ""),
+            (several(b"mixed", html, footer), "fox footer", ""),
+            (several(b"mixed", several(b"alternative", plain, html), several(b"alternative", blank, html)), "first fox", ""),
+            (several(b"mixed", html, calendar), "fox BEGIN:VCALENDAR", ""),
+            (several(b"mixed", html, inner), "fox inner", "Attachment: b.eml"),
+            (several(b"digest", b"\nSubject: no\n\none", b"\nFrom a\nSubject: no\n\ntwo"), "one two", ""),
+            (b"Content-Type: text/plain; name=report.txt\n\nreport", "report", "Attachment: report.txt"),
+            (several(b"mixed", b"no header\n\nat all", footer), "no header at all footer", ""),
+            (several(b"mixed", b"\nFrom here\non", b"no", said=b"; type=\"a;b\""), "From here on no", ""),
+            (several(b"mixed", plain, odd_name), "first 1,2", ""),
+            (several(b"mixed", plain, no_name), "first 1,2", ""),
+            (several(b"mixed", plain, b"Content-Type: text/plain; charset*=a; charset*0=b\n\nlast"), "first last", ""),
+            (several(b"mixed", plain, b"Content-Transfer-Encoding: uuencode\n\nbegin 644 a\n#\xff\n"), "first begin 644 a #\u00ff", ""),
+            (b"Content-Type: multipart/mixed; boundary*=c; boundary*0=d\n\n--c\n\ne", "--c e", ""),
+            (b"Content-Type: multipart/mixed; boundary=b\n\nno part", "no part", ""),
+            (b"Content-Type: multipart/mixed; boundary=b\n\n--b\n\none\n--bb\nx--b\n--b \t\n\nnot closed", "one --bb x--b not closed", ""),
+            (b'Content-Type: application/x; name="caf\xc3\xa9.x"\n\nno', "", "Attachment: caf\u00e9.x"),
+        ]:
+            for line_end in (b"\n", b"\r\n"):
+                found = next(mail.documents([("", b"Subject: x\n".replace(b"\n", line_end) + raw.replace(b"\n", line_end))])).load()
+                self.assertEqual((found.title, " ".join(found.body.split()), found.head), ("x", text, head), raw)
+
+    def test_parts_in_parts(self):
+        """Without an end to them, as deep as they go, and in as much room as the message has."""
+        deep = b"".join(b"Content-Type: multipart/mixed; boundary=b%d\n\n--b%d\n\ntext %d\n--b%d\n" % ((level,) * 4) for level in range(5000))
+        text = mail.Message(b"Subject: deep\n" + deep).text()
+        self.assertLessEqual({str(level) for level in range(5000)}, set(text.body.split()))
 
     def test_heads(self):
         for head, lines in [
@@ -678,7 +768,7 @@ class Mail(Case):
         )
         path = self.write("mail.mbox", archive)
         said = self.run_script("mail.py", self.path, path, expect=1)
-        self.assertRegex(said, "11 documents: [89] added, 1 repeated, [12] refused")
+        self.assertIn("11 documents: 9 added, 1 repeated, 1 refused\n", said)
         self.assertIn("it has no header", said)
         self.assertIn(f"1 document in parts, since a line has {LINE_LIMIT:,} bytes", said)
         self.assertEqual(self.whole("long@x")[0], " ".join(map(str, range(1_000_000))))
@@ -698,6 +788,10 @@ class Mail(Case):
         self.assertIn("0 added, 2 unchanged", self.run_script("mail.py", self.path, path))
         self.write("mail.mbox", archive.replace(b"text of two", b"text of too"))
         self.assertIn("0 added, 1 changed, 1 unchanged", self.run_script("mail.py", self.path, path))
+        for noted in (b"X-IMAPbase: 1 7", b"X-IMAP: 1 7", b"X-UIDL: a", b"x-gmail-labels : Inbox", b"X-Evolution: 0a-00", b"X-Label: b"):
+            for raw in (b"Subject: x\n\ny", b"Message-ID: <a>\nSubject: x\n\ny"):
+                message, marked = mail.Message(raw), mail.Message(noted + b"\n" + raw)
+                self.assertEqual((marked.wanted, marked.stamp), (message.wanted, message.stamp), noted)
         # Nor is an empty line at the end, before a message that has come.
         with open(path, "ab") as file:
             file.write(b"\n" + LETTER % (b"new", b"new", b"new"))
@@ -965,6 +1059,13 @@ class Find(Case):
         self.run_script("mail.py", "--show", "--raw", path, "two@x")
         self.assertEqual(self.out, "Message-ID: <two@x>\nFrom: bob@x\nSubject: Re: Red\n\nquick\n")
         self.assertIn("it has no message three@x", self.run_script("mail.py", "--show", path, "three@x", expect=1))
+        # A file of memory that nobody can read, whoever asks.
+        said = self.run_script("mail.py", "--show", "/proc/self/mem", "three@x", expect=3)
+        self.assertEqual(said, "mail: /proc/self/mem: Input/output error\n")
+        ours, theirs = os.pipe()
+        os.close(ours)
+        self.assertEqual(self.run_script("mail.py", "--show", "--raw", path, "two@x", stdout=theirs), "")
+        os.close(theirs)
         # Where a message has moved, the next run notes it.
         self.write("mail.mbox", archive[archive.index(b"From b") :])
         said = self.run_script("mail.py", self.path, path)
