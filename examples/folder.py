@@ -3,7 +3,7 @@
 
 The name is the path below the folder, made to fit the rule on names; the title is the file's name; the body is its text. Files
 that end in .gz are unpacked. A file that is no UTF-8 is refused, and said so; one that has a NUL in its first 8,192 bytes is
-no text, and passed over. A file counts as changed where its size or its time of change is another.
+no text, and passed over, as is a link to a folder. A file counts as changed where its size or its time of change is another.
 """
 
 import codecs
@@ -40,20 +40,26 @@ def data_of(path):
     """The bytes of a file, unpacked where it is packed, up to the limit, and how many are beyond."""
     try:
         with (gzip.open if path.endswith(".gz") else open)(path, "rb") as file:
-            data = file.read(TEXT_LIMIT)
-            beyond = 0
-            while len(data) == TEXT_LIMIT and (more := len(file.read(CHUNK))):
-                beyond += more
-            return data, beyond
+            data = file.read(BINARY_LOOK)
+            # What is no text has no stamp: each run looks at it, and reads no more of it.
+            if b"\0" in data:
+                raise NoText("binary")
+            data += file.read(TEXT_LIMIT - len(data))
+            return data, bytes_left(file) if len(data) == TEXT_LIMIT else 0
     except (EOFError, zlib.error, gzip.BadGzipFile) as error:
         raise Unfit(f"it can't be unpacked: {error}") from None
+
+
+def bytes_left(file):
+    """How many bytes a file has from where it was read to: a packed one has to be unpacked for that."""
+    if isinstance(file, gzip.GzipFile):
+        return sum(map(len, iter(lambda: file.read(CHUNK), b"")))
+    return max(0, os.fstat(file.fileno()).st_size - file.tell())
 
 
 def text_of(path, latin=False):
     """The text of a file."""
     data, beyond = data_of(path)
-    if b"\0" in data[:BINARY_LOOK]:
-        raise NoText("binary")
     try:
         # A character that the limit has cut is left out.
         text = codecs.getincrementaldecoder("utf-8-sig")().decode(data, final=not beyond)
@@ -109,6 +115,9 @@ def files(top, without=frozenset(), selection=Selection(), latin=False):
     for folder, folders, names in os.walk(top, onerror=unread.append):
         below = os.path.relpath(folder, top)
         folders[:] = sorted(name for name in folders if selection.has_folder(os.path.normpath(os.path.join(below, name))))
+        for name in folders:
+            if os.path.islink(os.path.join(folder, name)):
+                yield no_document(os.path.normpath(os.path.join(below, name)), NoText("a link to a folder"))
         for name in sorted(names):
             path, path_below = os.path.join(folder, name), os.path.normpath(os.path.join(below, name))
             if os.path.realpath(path) not in without and selection.has_file(path_below):

@@ -127,6 +127,14 @@ class Case(unittest.TestCase):
         self.assertEqual(process.returncode, expect, err)
         return err
 
+    def main(self, script, *words, expect=0):
+        """The same of a script that runs in this process."""
+        told = io.StringIO()
+        with mock.patch.object(sys, "argv", [script.__name__, *words]), contextlib.redirect_stderr(told):
+            with mock.patch.dict(os.environ, {"BUNCOCEDAR_PROGRAM": self.program}):
+                self.assertEqual(script.main(), expect, told.getvalue())
+        return told.getvalue()
+
     def stored(self):
         """The live documents of the fake's file: name to (number, title, body)."""
         documents = {}
@@ -577,6 +585,50 @@ class Folders(Case):
         process.communicate(timeout=PATIENCE)
         self.assertRegex(said, r"\r\x1b\[K1 document, 0 stored, [\d,]+ kB a second, 0 refused")
         self.assertRegex(said, r"\r\x1b\[Kfolder: 50 documents: 50 added\r\n$")
+
+
+class Sources(Case):
+    """What several sources bring into one index, and one that has moved."""
+
+    def note(self, name, text, time=0):
+        os.utime(self.write(name, text), (time, time))
+
+    def folder(self, *words, expect=0):
+        return self.main(folder, self.path, *(self.at(word) if word[0] != "-" else word for word in words), expect=expect)
+
+    def test_a_link_to_a_folder(self):
+        self.note("notes/sub/a", "text")
+        self.note("others/b", "text")
+        for link in ("notes/link", "notes/sub/link", "notes/left"):
+            os.symlink(self.at("others"), self.at(link))
+        said = self.folder("--verbose", "--skip=left", "notes")
+        self.assertIn("3 documents: 1 added, 2 passed over\n", said)
+        for name in ("link", "sub/link"):
+            self.assertIn(f"folder: passed over '{name}': a link to a folder\n", said)
+
+    def test_how_much_of_a_file_is_read(self):
+        taken = []
+
+        class Counted(io.FileIO):
+            def read(self, size=-1):
+                taken.append(size)
+                return super().read(size)
+
+        # Of what is no text no more is read than is looked at.
+        self.write("zeros", bytes(1 << 20))
+        self.write("zeros.gz", gzip.compress(bytes(1 << 20)))
+        with mock.patch.object(folder, "open", Counted, create=True):
+            self.assertRaises(importing.NoText, folder.text_of, self.at("zeros"))
+        unpack = gzip.GzipFile.read
+        with mock.patch.object(gzip.GzipFile, "read", lambda file, size=-1: taken.append(size) or unpack(file, size)):
+            self.assertRaises(importing.NoText, folder.text_of, self.at("zeros.gz"))
+        self.assertEqual(taken, [folder.BINARY_LOOK] * 2)
+        # A text is read as far as it is looked at, and it is told how much is left.
+        with mock.patch.object(folder, "TEXT_LIMIT", 10_000), mock.patch.object(folder, "CHUNK", 999):
+            for size in (9_999, 10_000, 10_001, 25_000):
+                for name, content in (("text", b"a" * size), ("text.gz", gzip.compress(b"a" * size))):
+                    text = folder.text_of(self.write(name, content))
+                    self.assertEqual((len(text.body), text.beyond), (min(size, 10_000), max(0, size - 10_000)))
 
 
 LETTER = b"""From a@b Mon Jan  1 00:00:00 2024
