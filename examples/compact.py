@@ -2,29 +2,17 @@
 """Copies an index without its holes: to a new file, while nothing else uses the old one.
 
 A file keeps its greatest size, and after many joins more than half of it may be free room. NEW has what OLD's root names and
-nothing besides, answers as OLD does, and is whole or not there at all; OLD stays as it is. The stamps beside OLD are copied
-too. So this is also how to back an index up.
+nothing besides, answers as OLD does, and is whole or not there at all, with the stamps of OLD; OLD stays as it is. So this is
+also how to back an index up.
 
 The status is 0 where NEW stands, and 3 where it does not.
 """
 
 import argparse
 import os
-import shutil
 import sys
 
-from indexfile import Unusable, locked, put_packed, sync_folder
-from stamps import stamps_path
-
-
-def copy_stamps(old, new):
-    """Copies the stamps beside an index, if there are any: whole, or not at all."""
-    if not os.path.exists(stamps_path(old)):
-        return
-    fresh = stamps_path(new) + ".new"
-    shutil.copyfile(stamps_path(old), fresh)
-    os.replace(fresh, stamps_path(new))
-    sync_folder(new)
+from indexfile import Unusable, locked, put_copy
 
 
 def main():
@@ -36,8 +24,7 @@ def main():
     options = parser.parse_args()
     try:
         with locked(options.old) as file:
-            put_packed(file, options.new)
-            copy_stamps(options.old, options.new)
+            put_copy(file, options.old, options.new)
             sizes = os.fstat(file.fileno()).st_size, os.path.getsize(options.new)
     except Unusable as fault:
         print(f"compact: {options.old}: {fault}", file=sys.stderr)

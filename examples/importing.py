@@ -22,7 +22,7 @@ from collections import deque
 from typing import Callable, NamedTuple
 
 import checkout  # noqa: F401
-from indexfile import HALF, LEVELS, Unusable, put_packed, read_root, sync_folder
+from indexfile import HALF, LEVELS, Unusable, put_copy, read_root
 from stamps import Source, Stamp, Stamps, digest, name_of, numbered, part_name, part_of, stamps_path, stem_of
 
 import buncocedar
@@ -35,6 +35,7 @@ OVERLAP = 100  # words of a part that the next one has too
 RECORD = 17  # bytes that a line takes more in the journal, at most
 MEMORY = "/dev/shm"
 BESIDE = "buncocedar-"  # how the name of a folder in memory begins, in which an index is made
+KEPT = "kept-buncocedar-"  # and of one in which an index stays that could not be put in its place
 
 # What goes into a stamp besides the document: another one, and all documents are made anew once.
 FORM = b"parts and fields\n"
@@ -679,18 +680,32 @@ def bring_into(log, path, source, documents, options):
 
 def bring_beside(log, path, source, documents, options):
     """Makes the index in memory, where there are no syncs to wait for, and moves what came of it into place, without holes."""
+    # Whether anything can be made at the place is known before all of the source is read.
+    with making(os.path.dirname(os.path.abspath(path))):
+        pass
     folder = memory_folder()
     tell_left(log, folder, BESIDE)
     with making(folder, BESIDE) as beside:
         status = bring_into(log, beside, source, documents, options)
-        with open(beside, "rb") as built:
-            with contextlib.suppress(FileNotFoundError):
-                if not os.path.getsize(path):
-                    os.remove(path)
-            put_packed(built, path)
-        with open(stamps_path(beside), "rb") as file:
-            put_stamps(file.read(), stamps_path(path))
+        try:
+            with open(beside, "rb") as built:
+                with contextlib.suppress(FileNotFoundError):
+                    if not os.path.getsize(path):
+                        os.remove(path)
+                put_copy(built, beside, path)
+        except BaseException:
+            kept = keep(beside)
+            log.say(f"{path} could not be put in place; the index was made, and stands in {kept}: examples/compact.py copies it")
+            raise
     return status
+
+
+def keep(beside):
+    """Moves an index and its stamps out of the folder that is taken away, and answers where it stands now."""
+    kept = tempfile.mkdtemp(prefix=KEPT, dir=os.path.dirname(os.path.dirname(beside)))
+    for path in (beside, stamps_path(beside)):
+        os.rename(path, os.path.join(kept, os.path.basename(path)))
+    return os.path.join(kept, os.path.basename(beside))
 
 
 def memory_folder():
@@ -702,16 +717,6 @@ def tell_left(log, folder, prefix):
     """Takes away what imports left here that were killed, and says so: nothing of it is in an index."""
     for path in remove_left(folder, prefix):
         log.say(f"{path} is taken away: an import that was killed has left it")
-
-
-def put_stamps(content, path):
-    """Puts the stamps of an index that was built beside into their place."""
-    with open(path + ".new", "wb") as file:
-        file.write(content)
-        file.flush()
-        os.fsync(file.fileno())
-    os.replace(path + ".new", path)
-    sync_folder(path)
 
 
 def write_lines(log, documents, whole):

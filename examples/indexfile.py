@@ -3,10 +3,12 @@
 import contextlib
 import fcntl
 import os
+import shutil
 import time
 from typing import NamedTuple
 
 import checkout  # noqa: F401
+from stamps import stamps_path
 
 from buncocedar.beside import making
 
@@ -169,23 +171,44 @@ def sync_folder(path):
         os.close(handle)
 
 
-def put_packed(source, new):
-    """Makes a file of an open one, without its holes: whole, or not at all, and over no file that is there."""
+def put_copy(source, old, new):
+    """Makes a file of an open one, without its holes, with the stamps of the index at `old`: whole, or not at all, and over no file.
+
+    The stamps come first. Beside no index they do no harm, and the next copy of this name puts others in their place.
+    """
     root = read_root(source)
-    folder = os.path.dirname(os.path.abspath(new))
-    with making(folder) as fresh:
+    with making(os.path.dirname(os.path.abspath(new))) as fresh:
         with open(fresh, "wb") as target:
             write_packed(source, root, target)
             os.fchmod(target.fileno(), os.fstat(source.fileno()).st_mode & 0o777)
             os.fsync(target.fileno())
+        has_stamps = copy_stamps(stamps_path(old), stamps_path(fresh))
         if os.path.lexists(new):
             raise Unusable(f"{new} is there already")
-        try:
-            os.link(fresh, new)
-        except FileExistsError:
-            raise Unusable(f"{new} is there already") from None
-        except OSError:
-            # The file system has no links.
-            os.rename(fresh, new)
+        if has_stamps:
+            os.replace(stamps_path(fresh), stamps_path(new))
+        put(fresh, new)
     sync_folder(new)
-    return root
+
+
+def copy_stamps(old, new):
+    """Copies a file of stamps to the disk, and tells whether there is one."""
+    try:
+        with open(old, "rb") as source, open(new, "wb") as target:
+            shutil.copyfileobj(source, target, CHUNK)
+            target.flush()
+            os.fsync(target.fileno())
+    except FileNotFoundError:
+        return False
+    return True
+
+
+def put(fresh, new):
+    """Moves a file to a path where there is none."""
+    try:
+        os.link(fresh, new)
+    except FileExistsError:
+        raise Unusable(f"{new} is there already") from None
+    except OSError:
+        # The file system has no links.
+        os.rename(fresh, new)

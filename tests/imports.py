@@ -630,6 +630,22 @@ class Sources(Case):
                     text = folder.text_of(self.write(name, content))
                     self.assertEqual((len(text.body), text.beyond), (min(size, 10_000), max(0, size - 10_000)))
 
+    def test_an_index_that_cannot_be_put_in_its_place(self):
+        # The fake's index is none that could be copied.
+        self.note("notes/a", "text")
+        os.mkdir(self.at("memory"))
+        with mock.patch.object(importing, "MEMORY", self.at("memory")):
+            for index in (self.at("none/x.alta"), self.at("notes/a/x.alta")):
+                with mock.patch.object(importing, "bring_into") as bring:
+                    self.main(folder, "--fast", index, self.at("notes"), expect=3)
+                bring.assert_not_called()
+            said = self.folder("--fast", "notes", expect=3)
+        (kept,) = glob.glob(self.at("memory/*/index.alta"))
+        self.assertIn(f"the index was made, and stands in {kept}: examples/compact.py copies it\n", said)
+        self.assertFalse(os.path.exists(self.path))
+        self.path = kept
+        self.assertIn("0 added, 1 unchanged", self.folder("notes"))
+
 
 LETTER = b"""From a@b Mon Jan  1 00:00:00 2024
 Message-ID: <%s@x>
@@ -1382,6 +1398,23 @@ class RealProgram(Case):
         self.write(".making-abcdefgh/lock", "")
         self.assertIn("an import that was killed", self.run_script("packages.py", self.path, status))
         self.assertFalse(os.path.exists(self.at(".making-abcdefgh")))
+
+    def test_an_index_whose_place_was_taken_meanwhile(self):
+        def documents():
+            self.write("x.alta", "of another one")
+            yield importing.Document("a", b"", lambda: importing.Text("", "letter"))
+
+        told = io.StringIO()
+        with mock.patch.dict(os.environ, {"BUNCOCEDAR_PROGRAM": PROGRAM}), contextlib.redirect_stderr(told):
+            with mock.patch.object(importing, "memory_folder", lambda: self.place.name):
+                self.assertEqual(importing.bring("mail", self.path, stamps.Source("mail", "box"), documents(), fast=True), 3)
+        (kept,) = glob.glob(self.at("kept-*/index.alta"))
+        self.assertIn(f"stands in {kept}", told.getvalue())
+        self.assertEqual(self.read(self.path), b"of another one")
+        os.remove(self.path)
+        self.run_script("compact.py", kept, self.path)
+        self.assertEqual(self.found("letter"), ["1 a"])
+        self.assertEqual(set(stamps.Records(self.path + ".stamps").of), {"a"})
 
     def test_back_to_a_message(self):
         path = self.write(

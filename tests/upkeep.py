@@ -148,9 +148,16 @@ def refusals(scripts, chance):
         expect(sorted(os.listdir(scripts.folder)) == before, "something was written")
 
     put(new, b"a file")
+    put(new + ".stamps", b"of it")
+    put(old + ".stamps", b"some stamps\n")
     refused("is there already")
-    expect(contents(new) == b"a file", "a file was written over")
-    os.remove(new)
+    expect((contents(new), contents(new + ".stamps")) == (b"a file", b"of it"), "a file was written over")
+    for path in (new, new + ".stamps", old + ".stamps"):
+        os.remove(path)
+    # Where the stamps can't be copied, the index is not either.
+    os.mkdir(old + ".stamps")
+    refused("Is a directory")
+    os.rmdir(old + ".stamps")
     with open(old, "rb") as file:
         fcntl.flock(file, fcntl.LOCK_EX)
         refused("is in use")
