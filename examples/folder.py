@@ -30,7 +30,7 @@ def no_document(path, why):
     def load():
         raise why
 
-    return Document(path, str(why).encode(), load)
+    return Document(path, str(why).encode(), load, Place(path).spelled(), exact=False)
 
 
 # --- Texts.
@@ -106,7 +106,7 @@ def file_document(path, below, latin):
     if not stat.S_ISREG(found.st_mode):
         return no_document(below, NoText("no regular file"))
     stamp = f"{found.st_size} {found.st_mtime_ns}".encode()
-    return Document(below, stamp, lambda: text_of(path, latin), Place(below).spelled())
+    return Document(below, stamp, lambda: text_of(path, latin), Place(below).spelled(), exact=False)
 
 
 def files(top, without=frozenset(), selection=Selection(), latin=False):

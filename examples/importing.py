@@ -11,7 +11,7 @@ with the last hundred words of the part before, so that a phrase over the border
 
 import argparse
 import contextlib
-import itertools
+import functools
 import os
 import re
 import signal
@@ -19,11 +19,27 @@ import sys
 import tempfile
 import time
 from collections import deque
-from typing import Callable, NamedTuple
+from typing import Callable, NamedTuple, Optional
 
 import checkout  # noqa: F401
 from indexfile import HALF, LEVELS, Unusable, put_copy, read_root
-from stamps import Source, Stamp, Stamps, digest, name_of, numbered, part_name, part_of, stamps_path, stem_of
+from stamps import (
+    FRONT_LIMIT,
+    Place,
+    Source,
+    Stamp,
+    Stamps,
+    below,
+    digest,
+    is_numbered,
+    name_of,
+    numbered,
+    part_name,
+    part_of,
+    place_of,
+    stamps_path,
+    stem_of,
+)
 
 import buncocedar
 from buncocedar import Error, Full, Index, Refused
@@ -58,13 +74,15 @@ class Text(NamedTuple):
 class Document(NamedTuple):
     """A document to be brought in. `load` is called only where it is new or has changed, and raises `Unfit` or `OSError`.
 
-    `place` is where it stands in its source, as `stamps.Place` spells it.
+    `place` is where it stands in its source, as `stamps.Place` spells it. `exact` says whether documents of one name and stamp
+    are the same: where it is false, as of the size and time of a file, they are where they stand at one place of one source.
     """
 
     wanted: str
     stamp: bytes
     load: Callable[[], Text]
     place: str = ""
+    exact: bool = True
 
 
 class Unfit(Exception):
@@ -77,6 +95,19 @@ class NoText(Unfit):
 
 class Unseen(Unfit):
     """Why a part of the source could not be looked at: documents may stand there."""
+
+
+def content_of(text):
+    """The digest of a text, by which that of a file is known again in another folder."""
+    return digest(f"{text.title}\0{text.body}\0{text.beyond}".encode(errors="surrogatepass"))
+
+
+def has_content(document, content):
+    try:
+        return content_of(document.load()) == content
+    except Exception:
+        # It is looked at once more when it is sent, and then refused.
+        return False
 
 
 def spaced(text):
@@ -250,7 +281,7 @@ def several(number, word="document"):
 class Sent(NamedTuple):
     """A document under way: the replies to the adds of its parts, and to the deletions of those that it has no more.
 
-    `parts` and `older` are how many it has, and has no more.
+    `parts` and `older` are how many it has, and has no more; `content` is for its stamp.
     """
 
     name: str
@@ -261,6 +292,7 @@ class Sent(NamedTuple):
     older: int
     added: list
     gone: list
+    content: str = ""
 
     def is_answered(self):
         """Replies come in the order of their lines, so the last one is there when all are."""
@@ -281,13 +313,18 @@ def was_done(reply):
 
 
 class Options(NamedTuple):
-    """How an import is to be done, as its words say."""
+    """How an import is to be done, as its words say. `moved_from` is where its folder or archive stood before.
+
+    `file` is the one that is read, where all files are one source, and empty where that is no file.
+    """
 
     whole: bool = False
     prune: bool = False
     merge: bool = True
     verbose: bool = False
     wait: float = 10.0
+    moved_from: Optional[str] = None
+    file: str = ""
 
 
 class Import:
@@ -296,14 +333,23 @@ class Import:
     def __init__(self, index, stamps, source, options, log):
         self.index = index
         self.stamps = stamps
-        self.source = stamps.source(*source)
         self.options = options
         self.log = log
+        self.archives = {below(source.path, Place(options.file))}  # where the documents stand, or stood before
+        self.sources = set()
+        if options.moved_from is not None:
+            self.note_move(source.kind, os.path.realpath(options.moved_from))
+        self.source = stamps.source(*source)
+        self.sources.add(self.source)
         self.live = {name: number for number, name in index.search(EVERY_DOCUMENT)}
         self.parts = {}  # of each stem the number of its last part
         for name in self.live:
             self.note_part(name)
-        self.used = {}
+        self.used = {}  # of each name that a document of this run has its stamp
+        self.numbers = {}  # of a wanted name the first number that may be free, where that is not 1
+        self.later = {}  # of the front of a wanted name, and a stamp, the names with a number
+        for name, stamp in stamps.of.items():
+            self.note_number(name, stamp.stamp)
         self.sent = deque()
         kinds = ("added", "changed", "added again", "unchanged", "repeated", "passed over", "refused", "left")
         self.counts = dict.fromkeys(kinds, 0)
@@ -314,6 +360,7 @@ class Import:
         self.levels = Levels(level_count(index.path) + bool(self.live))
         self.gone = []
         self.pruned = 0
+        self.missing = {}  # of each archive that is not there how many documents came from it
         self.unseen = False
         self.first_left = None
         self.end = None
@@ -326,6 +373,24 @@ class Import:
         stem, number = part_of(name) or (None, 0)
         if stem is not None:
             self.parts[stem] = max(number, self.parts.get(stem, 0))
+
+    def note_number(self, name, stamp):
+        front, mark, number = name.rpartition("~")
+        if mark and number.isdecimal():
+            self.later.setdefault((front[:FRONT_LIMIT], stamp), []).append(name)
+
+    def note_move(self, kind, path):
+        """Takes what was brought in from another path for what stands in this source."""
+        if os.path.exists(path):
+            raise Unusable(f"nothing has moved from {path}: it is still there")
+        self.sources = {stamp.source for stamp in self.stamps.of.values() if self.is_from(stamp, kind, path)}
+        if not self.sources:
+            raise Unusable(f"nothing was brought in from {path}")
+        self.archives.add(path)
+
+    def is_from(self, stamp, kind, path):
+        source = self.stamps.sources.get(stamp.source)
+        return source is not None and source.kind == kind and self.stamps.archive(stamp) == path
 
     def look_for_losses(self):
         """Says where the index has forgotten what an earlier run brought in."""
@@ -343,30 +408,78 @@ class Import:
         """Whether a stamp counts: the index has all its parts."""
         return all(self.live.get(part_name(name, part)) == number for part, number in enumerate(stamp.numbers, 1))
 
+    def counting(self, name):
+        """The stamp of this name where it counts, else None."""
+        stamp = self.stamps.of.get(name)
+        return stamp if stamp is not None and self.counts_for(name, stamp) else None
+
     def choose(self, document):
         """The name that the document gets, its stamp and what becomes of it: "unchanged", "repeated", or what it counts as."""
         wanted = name_of(document.wanted)
         stamp = digest(FORM + document.stamp)
-        for number in itertools.count(1):
+        names = [wanted, *self.later.get((wanted[:FRONT_LIMIT], stamp), ())]
+        for name in names:
+            if self.used.get(name) == stamp and is_numbered(name, wanted):
+                return name, stamp, "repeated"
+        name = self.name_it_has(document, wanted, stamp, names) or self.name_it_gets(document, wanted)
+        self.used[name] = stamp
+        if name != wanted:
+            self.note_number(name, stamp)
+        known = self.counting(name)
+        if known is None:
+            return name, stamp, "added again" if name in self.live else "added"
+        if known.stamp != stamp:
+            return name, stamp, "changed"
+        place = document.place or known.place
+        if (known.source, known.place) != (self.source, place):
+            # It has moved, or two sources have this document: its next change is this source's.
+            self.stamps.put({name: known._replace(source=self.source, place=place)})
+        return name, stamp, "unchanged"
+
+    @functools.cached_property
+    def places(self):
+        """Of each place in this source the name of the document that was found there."""
+        found = [(name, stamp) for name, stamp in self.stamps.of.items() if stamp.source in self.sources and self.counts_for(name, stamp)]
+        found.sort(key=lambda pair: pair[1].source == self.source)
+        return {stamp.place: name for name, stamp in found}
+
+    def name_it_has(self, document, wanted, stamp, names):
+        """The name under which the index has the document, None where it has none: it need not be the first that is free."""
+        if not document.exact:
+            names = [self.places.get(document.place, wanted), *names]
+        for name in names:
+            known = self.counting(name)
+            if known is not None and name not in self.used and is_numbered(name, wanted) and self.is_same(document, stamp, known):
+                return name
+        return None
+
+    def is_same(self, document, stamp, known):
+        """Whether a stamp is that of the document, also where a file has changed."""
+        if document.exact:
+            return known.stamp == stamp
+        if known.place not in ("", document.place):
+            return False
+        if known.source in self.sources:
+            return known.stamp == stamp or known.place == document.place
+        # The file of another folder: that folder has moved, or this is another file of the same size and time.
+        source = self.stamps.sources.get(known.source)
+        if known.stamp != stamp or source is None:
+            return False
+        return not os.path.exists(below(source.path, place_of(document.place))) and has_content(document, known.content)
+
+    def name_it_gets(self, document, wanted):
+        """The first name that no other document has: it is free, or this one's of before."""
+        while True:
+            number = self.numbers.get(wanted, 1)
             name = numbered(wanted, number)
-            if name in self.used:
-                if self.used[name] == stamp:
-                    return name, stamp, "repeated"
-                continue
-            known = self.stamps.of.get(name)
-            counts = known is not None and self.counts_for(name, known)
-            if counts and known.stamp != stamp and known.source != self.source:
-                continue
-            self.used[name] = stamp
-            if not counts:
-                return name, stamp, "added again" if name in self.live else "added"
-            if known.stamp != stamp:
-                return name, stamp, "changed"
-            place = document.place or known.place
-            if (known.source, known.place) != (self.source, place):
-                # It has moved, or two sources have this document: its next change is this source's.
-                self.stamps.put({name: known._replace(source=self.source, place=place)})
-            return name, stamp, "unchanged"
+            known = self.counting(name)
+            if name not in self.used and (known is None or self.is_older(document, known)):
+                return name
+            self.numbers[wanted] = number + 1
+
+    def is_older(self, document, known):
+        """Whether what has another stamp can be the document as it was before."""
+        return known.source in self.sources and (document.exact or known.place in ("", document.place))
 
     def take(self, document):
         """Brings one document in, or only counts it where the program has ended."""
@@ -377,7 +490,9 @@ class Import:
             self.leave(name)
         else:
             try:
-                self.send(Sent(name, kind, stamp, document.place, 0, 0, [], []), document.load())
+                text = document.load()
+                content = "" if document.exact else content_of(text)
+                self.send(Sent(name, kind, stamp, document.place, 0, 0, [], [], content), text)
             except NoText as why:
                 self.pass_over(document.wanted, why)
             except Unseen as fault:
@@ -457,7 +572,7 @@ class Import:
             numbers = self.numbers_of(sent)
             if numbers:
                 self.counts[sent.kind] += 1
-                stamps[sent.name] = Stamp(numbers, sent.stamp, self.source, sent.place)
+                stamps[sent.name] = Stamp(numbers, sent.stamp, self.source, sent.place, sent.content)
         if stamps:
             self.stamps.put(stamps)
 
@@ -509,29 +624,48 @@ class Import:
             self.fault = f"the source could not be read: {error}"
         if not (interrupts.count or self.fault or self.stamps.fault or self.end):
             self.look_for_gone()
+            if self.options.prune:
+                self.prune(interrupts)
         self.finish()
         self.interrupted = interrupts.count > 0
         self.fault = self.fault or self.stamps.fault
 
     def look_for_gone(self):
-        """Finds what an earlier run brought in and this one did not see, and deletes it where that is asked for.
+        """Finds what an earlier run brought in and this one did not see.
 
         Where the source gave nothing, or a part of it could not be looked at, that says nothing of what is in it.
         """
         self.index.settle()
         self.collect()
+        kind = self.stamps.sources[self.source].kind
+        others = {}
+        for name, stamp in self.stamps.of.items():
+            if name in self.used or not self.counts_for(name, stamp) or not self.is_of_kind(kind, name, stamp):
+                continue
+            archive = self.stamps.archive(stamp)
+            if stamp.source in self.sources and archive in self.archives:
+                self.gone.append(name)
+            else:
+                others[archive] = others.get(archive, 0) + 1
         if self.sent or self.unseen or not self.used:
-            return
-        self.gone = [
-            name
-            for name, stamp in self.stamps.of.items()
-            if stamp.source == self.source and name not in self.used and self.counts_for(name, stamp)
-        ]
-        if self.options.prune:
-            self.prune()
+            self.gone = []
+        self.missing = {path: count for path, count in others.items() if os.path.isabs(path) and not os.path.exists(path)}
 
-    def prune(self):
+    def is_of_kind(self, kind, name, stamp):
+        """Whether a document was brought in from a source of this kind.
+
+        A file has its path as its name, and nothing else has: of a version before, a folder of files and a Maildir at one path can
+        have one source.
+        """
+        source = self.stamps.sources.get(stamp.source)
+        path = place_of(stamp.place).path
+        return source is not None and source.kind == kind and (not path or is_numbered(name, name_of(path)) == (kind == "folder"))
+
+    def prune(self, interrupts):
+        """Deletes what is gone, up to an interrupt."""
         for name in self.gone:
+            if interrupts.count:
+                break
             sent = Sent(name, "", "", "", 0, 0, [], [])
             try:
                 self.replace(sent, [], self.standing(name))
@@ -606,6 +740,13 @@ class Import:
             self.log.say(f"{several(left)} of earlier runs not seen any more, and still in the index; --prune deletes such")
         if self.options.prune and (self.unseen or not self.used):
             self.log.say("nothing was pruned: the source gave nothing, or not all of it could be looked at")
+        if self.missing:
+            archive, *others = self.missing
+            more = f" and {several(len(others), 'other')}" if others else ""
+            self.log.say(
+                f"{several(sum(self.missing.values()))} of earlier runs came from {archive}{more}, not there any more; "
+                "--moved-from says where this source was before"
+            )
 
     def doubt(self):
         """What is not known of the first document without a reply, since the program may have ended behind its commit."""
@@ -645,9 +786,9 @@ def level_count(path):
 def bring(tool, path, source, documents, options=Options(), fast=False):
     """Brings the documents of a source into the index at the path, and answers the exit status."""
     log = Log(tool)
-    if path == "-":
-        return write_lines(log, documents, options.whole)
     try:
+        if path == "-":
+            return write_lines(log, documents, options.whole)
         if fast and os.path.exists(path) and os.path.getsize(path):
             log.say(f"{path} is there already, so it is added to where it stands")
             fast = False
@@ -655,22 +796,25 @@ def bring(tool, path, source, documents, options=Options(), fast=False):
             return bring_beside(log, path, source, documents, options)
         return bring_into(log, path, source, documents, options)
     except (Error, OSError, Unusable) as error:
-        log.say(error if str(error).startswith(path) else f"{path}: {error}")
+        log.say(f"stopped: {error}" if path == "-" else error if str(error).startswith(path) else f"{path}: {error}")
         return STOPPED
     except KeyboardInterrupt:
-        log.say("broken off: run this again, and it goes on from here")
+        log.say("broken off" if path == "-" else "broken off: run this again, and it goes on from here")
         return 128 + signal.SIGINT
 
 
 def bring_into(log, path, source, documents, options):
     with contextlib.suppress(OSError):
         tell_left(log, os.path.dirname(os.path.abspath(path)), PREFIX)
-    with Index(path, create=True, patience=options.wait, on_wait=log.say) as index, Interrupts(index) as interrupts:
-        stamps = Stamps(stamps_path(path))
+    with contextlib.ExitStack() as stack:
+        index = stack.enter_context(Index(path, create=True, patience=options.wait, on_wait=log.say))
+        # Behind a server several may have the index: one import at a time gives names, and writes stamps.
+        stamps = Stamps(stamps_path(path), options.wait, lambda why: log.say(f"{path}: {why}, and is waited for"))
+        stack.callback(stamps.close)
+        interrupts = stack.enter_context(Interrupts(index))
         work = Import(index, stamps, source, options, log)
         work.run(documents, interrupts)
         work.report()
-        stamps.close()
     if work.interrupted:
         return 128 + interrupts.signal
     if work.end is not None or work.fault:
@@ -723,9 +867,11 @@ def write_lines(log, documents, whole):
     """Writes the `add` lines of the documents to standard output, in place of adding them."""
     written = in_parts = passed_over = refused = 0
     used = set()
+    numbers = {}  # of a wanted name the first number that may be free
     for document in documents:
         wanted = name_of(document.wanted)
-        name = next(name for name in (numbered(wanted, number) for number in itertools.count(1)) if name not in used)
+        while (name := numbered(wanted, numbers.setdefault(wanted, 1))) in used:
+            numbers[wanted] += 1
         used.add(name)
         try:
             parts = parts_of(name, document.load(), whole)
@@ -763,6 +909,7 @@ def arguments(tool, describe, *names):
     for name, about in names:
         parser.add_argument(name.lower().strip("[]"), metavar=name.strip("[]"), nargs="?" if "[" in name else None, help=about)
     parser.add_argument("--prune", action="store_true", help="delete what earlier runs brought in and is gone from the source")
+    parser.add_argument("--moved-from", metavar="OLD", help="where the source stood when it was brought in before")
     parser.add_argument("--fast", action="store_true", help="make a new index in memory, and move it into place at the end")
     parser.add_argument("--whole", action="store_true", help="refuse what is too long for a line, in place of parts")
     parser.add_argument("--no-merge", action="store_true", help=f"do not join the levels when there are {LEVELS}")
@@ -771,7 +918,7 @@ def arguments(tool, describe, *names):
     return parser
 
 
-def bring_as(tool, words, path, documents):
-    """Brings documents in as the words of a script say; the path is that of their source."""
-    options = Options(words.whole, words.prune, not words.no_merge, words.verbose, words.wait)
+def bring_as(tool, words, path, documents, file=""):
+    """Brings documents in as the words of a script say; the path is that of their source, and `file` as in `Options`."""
+    options = Options(words.whole, words.prune, not words.no_merge, words.verbose, words.wait, words.moved_from, file)
     return bring(tool, words.index, Source(tool, path), documents, options, words.fast)

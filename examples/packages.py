@@ -1,7 +1,8 @@
 #!/usr/bin/env python3
 """Brings Debian's package descriptions into an index, from `apt-cache dumpavail` or a file as /var/lib/dpkg/status.
 
-The name is the package's name, the title the description's first line, the body the rest of the description.
+The name is the package's name, the title the description's first line, the body the rest of the description. A package that
+stands in several files is one document, of the file that was read last. --prune deletes what is gone from the file that is read.
 """
 
 import os
@@ -81,7 +82,7 @@ def main():
     path = os.path.realpath(options.file) if options.file and os.path.isfile(options.file) else None
     with source:
         # All files of descriptions are one source, since a package may stand in each.
-        return bring_as("packages", options, "packages", packages(source, path))
+        return bring_as("packages", options, "packages", packages(source, path), path or "")
 
 
 if __name__ == "__main__":

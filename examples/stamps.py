@@ -2,28 +2,40 @@
 
 The file of stamps has a line for each document that the index has answered:
 
-    NAME NUMBERS STAMP SOURCE [PLACE]
+    NAME NUMBERS STAMP SOURCE [PLACE [CONTENT]]
 
 NUMBERS are those of its parts, with commas between; STAMP is a digest that changes when the document does; SOURCE is the
-digest of what it came from, and PLACE where in it: a path below it, and `@BEGIN+LENGTH` where it is a piece of a file. A line
-`= SOURCE KIND PATH` says what a source is, and a line `- NAME` that a document is gone. Paths are written as in URLs. A line
-that was torn by a stop is passed over; the last line of a name or of a source counts.
+digest of what it came from, and PLACE where in it: a path below it, and `@BEGIN+LENGTH` where it is a piece of a file. CONTENT
+is the digest of its text, where STAMP is of the size and time of a file. A line `= SOURCE KIND PATH` says what a source is, and
+a line `- NAME` that a document is gone. Paths are written as in URLs. A line that was torn by a stop is passed over; the last
+line of a name or of a source counts.
+
+Who writes the file holds its lock (`flock`), from before it is read: of two imports into one index the second waits.
 """
 
+import fcntl
 import hashlib
 import os
 import re
+import time
 from typing import NamedTuple, Optional
 from urllib.parse import quote, unquote_to_bytes
 
+import checkout  # noqa: F401
+
+from buncocedar import InUse
+
 NAME_LIMIT = 64
 STEM_LIMIT = 58  # characters of a name before the end of a part, as `~p2`
+FRONT_LIMIT = 56  # characters with which all names of documents begin that want the same one
+SECONDS_OF_SILENCE = 1.0  # in a wait for another import
 
 _NAME = "[!-~]{1,64}"
-_STAMP = re.compile(f"({_NAME}) ([1-9][0-9]*(?:,[1-9][0-9]*)*) ([0-9a-f]{{32}}) ([0-9a-f]{{8}})(?: ([!-~]+))?".encode())
+_STAMP = re.compile(f"({_NAME}) ([1-9][0-9]*(?:,[1-9][0-9]*)*) ([0-9a-f]{{32}}) ([0-9a-f]{{8}})(?: ([!-~]+)(?: ([0-9a-f]{{32}}))?)?".encode())
 _SOURCE = re.compile(b"= ([0-9a-f]{8}) ([a-z]+) ([!-~]+)")
 _GONE = re.compile(f"- ({_NAME})".encode())
 _PART = re.compile("(.+)~p([1-9][0-9]*)", re.DOTALL)
+_NUMBERED = re.compile(".+~([1-9][0-9]*)", re.DOTALL)
 _PLACE = re.compile(r"([^@]*)(?:@([0-9]+)\+([0-9]+))?")
 
 
@@ -46,6 +58,12 @@ def numbered(name, number):
     """The name of the document that wants this name as the first, the second, .."""
     end = f"~{number}" if number > 1 else ""
     return name[: NAME_LIMIT - len(end)] + end
+
+
+def is_numbered(name, wanted):
+    """Whether a name is that of the first, the second, .. document that wants this one."""
+    match = _NUMBERED.fullmatch(name)
+    return name == wanted or match is not None and name == numbered(wanted, int(match[1]))
 
 
 def stem_of(name):
@@ -88,13 +106,22 @@ def place_of(text):
     return Place(os.fsdecode(unquote_to_bytes(path)), *((int(begin), int(length)) if begin else ()))
 
 
+def below(top, place):
+    """The path of the file in which a place of a source is."""
+    return os.path.join(top, place.path) if place.path else top
+
+
 class Stamp(NamedTuple):
-    """Of a document: the numbers of its parts, the digest of what it was made of, its source, and its place there."""
+    """Of a document: the numbers of its parts, the digest of what it was made of, its source, and its place there.
+
+    `content` is the digest of its text, where the other one says nothing of that; empty where it is not known.
+    """
 
     numbers: tuple
     stamp: str
     source: str
     place: str = ""
+    content: str = ""
 
 
 class Source(NamedTuple):
@@ -134,8 +161,8 @@ class Records:
     def _take(self, line):
         match = _STAMP.fullmatch(line)
         if match:
-            name, numbers, stamp, source, place = (part.decode() if part else "" for part in match.groups())
-            self.of[name] = Stamp(tuple(map(int, numbers.split(","))), stamp, source, place)
+            name, numbers, *rest = (part.decode() if part else "" for part in match.groups())
+            self.of[name] = Stamp(tuple(map(int, numbers.split(","))), *rest)
         elif _SOURCE.fullmatch(line):
             source, kind, path = line[2:].decode().split(" ")
             self.sources[source] = Source(kind, os.fsdecode(unquote_to_bytes(path)))
@@ -149,43 +176,55 @@ class Records:
         if source is None or not stamp.place:
             return None
         place = place_of(stamp.place)
-        top = moved or source.path
-        path = os.path.join(top, place.path) if place.path else top
-        return Found(source.kind, path, place.begin, place.length, stamp.stamp)
+        return Found(source.kind, below(moved or source.path, place), place.begin, place.length, stamp.stamp)
+
+    def archive(self, stamp):
+        """The path of what a document came from, None where it is not known: a file or folder that was brought in."""
+        source = self.sources.get(stamp.source)
+        if source is None or os.path.isabs(source.path):
+            return source and source.path
+        # One source of many files, each of which was brought in alone.
+        return below(source.path, place_of(stamp.place))
 
 
 class Stamps(Records):
-    """The stamps beside an index, to be added to.
+    """The stamps beside an index, to be added to, locked until they are closed.
 
-    `fault` says why they can't be written, from then on: what is stored without a stamp is added again by the next run.
+    Where another import has them, `patience` says how many seconds to wait before `InUse`, and `on_wait` is called once, with
+    the reason, when that takes more than a moment. `fault` says why they can't be written, from then on: what is stored without
+    a stamp is added again by the next run.
     """
 
-    def __init__(self, path):
+    def __init__(self, path, patience=10.0, on_wait=lambda why: None):
+        self.file = locked_file(path, patience, on_wait)
         super().__init__(path)
         self.fault = None
         if self.lines > 2 * len(self.of) + len(self.sources) + 1000:
             self.rewrite()
-            self.torn = False
-        self.file = os.open(path, os.O_WRONLY | os.O_CREAT | os.O_APPEND, 0o666)
-        if self.torn:
+        elif self.torn:
             self.write("\n")
 
     def rewrite(self):
-        """Writes the file anew without the lines that count no more."""
+        """Writes the file anew without the lines that count no more, locked before it has its name."""
         fresh = self.path + ".new"
         with open(fresh, "w", encoding="ascii") as file:
             file.writelines(source_line(digest, source) for digest, source in self.sources.items())
             file.writelines(stamp_line(name, stamp) for name, stamp in self.of.items())
             file.flush()
             os.fsync(file.fileno())
+        before, self.file = self.file, locked_file(fresh)
         os.replace(fresh, self.path)
+        os.close(before)
 
     def source(self, kind, path):
-        """Notes a source, and answers its digest."""
+        """Notes a source, and answers its digest, which no other one has."""
+        wanted = Source(kind, path)
         known = digest(path.encode(errors="surrogatepass"), 4)
-        if self.sources.get(known) != Source(kind, path):
-            self.sources[known] = Source(kind, path)
-            self.write(source_line(known, self.sources[known]))
+        while self.sources.get(known, wanted) != wanted:
+            known = digest(f"{known} {kind} {path}".encode(errors="surrogatepass"), 4)
+        if known not in self.sources:
+            self.sources[known] = wanted
+            self.write(source_line(known, wanted))
         return known
 
     def put(self, stamps):
@@ -212,9 +251,52 @@ class Stamps(Records):
         os.close(self.file)
 
 
+def locked_file(path, patience=0.0, on_wait=lambda why: None):
+    """The handle of a file of stamps, made where there is none, which is written at its end and locked until it is closed.
+
+    Waits for who has it, as `Stamps` says.
+    """
+    why = "another import into it is at work"
+    begun = time.monotonic()
+    is_said = False
+    while True:
+        handle = os.open(path, os.O_WRONLY | os.O_CREAT | os.O_APPEND, 0o666)
+        if is_locked(handle) and is_at(handle, path):
+            return handle
+        os.close(handle)
+        waited = time.monotonic() - begun
+        if waited >= patience:
+            raise InUse(why)
+        if waited >= SECONDS_OF_SILENCE and not is_said:
+            is_said = True
+            on_wait(why)
+        time.sleep(0.05)
+
+
+def is_locked(handle):
+    """Locks a file until its handle is closed; false where another one has it."""
+    try:
+        fcntl.flock(handle, fcntl.LOCK_EX | fcntl.LOCK_NB)
+    except BlockingIOError:
+        return False
+    except OSError:
+        # The file system has no locks.
+        pass
+    return True
+
+
+def is_at(handle, path):
+    """Whether the file is still the one at this path: who had it before may have written it anew."""
+    try:
+        return os.path.samestat(os.fstat(handle), os.stat(path))
+    except FileNotFoundError:
+        return False
+
+
 def stamp_line(name, stamp):
     place = f" {stamp.place}" if stamp.place else ""
-    return f"{name} {','.join(map(str, stamp.numbers))} {stamp.stamp} {stamp.source}{place}\n"
+    content = f" {stamp.content}" if stamp.place and stamp.content else ""
+    return f"{name} {','.join(map(str, stamp.numbers))} {stamp.stamp} {stamp.source}{place}{content}\n"
 
 
 def source_line(known, source):

@@ -43,6 +43,7 @@ import folder  # noqa: E402
 import importing  # noqa: E402
 import mail  # noqa: E402
 import matching  # noqa: E402
+import packages  # noqa: E402
 import prompt  # noqa: E402
 import stamps  # noqa: E402
 import terminal  # noqa: E402
@@ -278,8 +279,8 @@ class Folders(Case):
         notes = self.notes(200)
 
         class OnFullDisk(importing.Stamps):
-            def __init__(self, path):
-                super().__init__(path)
+            def __init__(self, *words):
+                super().__init__(*words)
                 os.dup2(os.open("/dev/full", os.O_WRONLY), self.file)
 
             def close(self):
@@ -596,6 +597,247 @@ class Sources(Case):
     def folder(self, *words, expect=0):
         return self.main(folder, self.path, *(self.at(word) if word[0] != "-" else word for word in words), expect=expect)
 
+    def documents(self, *documents, source="box", kind="mail", prune=False):
+        """Brings in documents, each a name, a stamp and perhaps a place; the stamp is the text."""
+        found = [importing.Document(name, stamp.encode(), lambda stamp=stamp: importing.Text("", stamp), *place) for name, stamp, *place in documents]
+        told = io.StringIO()
+        with mock.patch.dict(os.environ, {"BUNCOCEDAR_PROGRAM": FAKE}), contextlib.redirect_stderr(told):
+            options = importing.Options(prune=prune)
+            self.assertEqual(importing.bring(kind, self.path, stamps.Source(kind, self.at(source)), found, options), 0, told.getvalue())
+        return told.getvalue()
+
+    def test_files_of_one_size_and_time(self):
+        self.note("one/a.txt", "red")
+        self.note("two/a.txt", "fox")
+        for said in ("1 added", "0 added, 1 unchanged"):
+            self.assertIn(said, self.folder("one"))
+            self.assertIn(said, self.folder("two"))
+            self.assertEqual(self.bodies(), {"a.txt": "red", "a.txt~2": "fox"})
+        # Two files of one text are two documents, as long as both are there.
+        self.note("one/b", "text")
+        self.note("two/b", "text")
+        for said in ("1 added, 1 unchanged", "0 added, 2 unchanged"):
+            self.assertIn(said, self.folder("one"))
+            self.assertIn(said, self.folder("two"))
+        os.remove(self.at("two/b"))
+        self.folder("two", "--prune")
+        self.assertEqual(self.bodies(), {"a.txt": "red", "a.txt~2": "fox", "b": "text"})
+        os.remove(self.at("one/b"))
+        self.folder("one", "--prune")
+        # A folder that has moved is known by its texts, and another one in its place has others.
+        shutil.move(self.at("one"), self.at("three"))
+        self.assertIn("0 added, 1 unchanged", self.folder("three"))
+        shutil.rmtree(self.at("three"))
+        self.note("four/a.txt", "dog")
+        self.assertIn("1 added", self.folder("four"))
+        self.assertEqual(self.bodies(), {"a.txt": "red", "a.txt~2": "fox", "a.txt~3": "dog"})
+        # The stamps of a version before count, but say nothing of a text in another folder.
+        contents = self.read(self.path + ".stamps").count(b" ")
+        self.write("x.alta.stamps", re.sub(rb"(?m)^([^=].* .* .* .* .*) .*$", rb"\1", self.read(self.path + ".stamps")))
+        self.assertLess(self.read(self.path + ".stamps").count(b" "), contents)
+        self.assertIn("0 added, 1 unchanged", self.folder("two"))
+        shutil.move(self.at("two"), self.at("five"))
+        self.assertIn("2 documents of earlier runs came from", self.folder("five"))
+        self.assertIn("0 added, 1 unchanged", self.folder("five"))
+        self.assertEqual(self.bodies(), {"a.txt": "red", "a.txt~2": "fox", "a.txt~3": "dog", "a.txt~4": "fox"})
+        self.folder("five", "--moved-from", "two", "--prune")
+        self.assertEqual(self.bodies(), {"a.txt": "red", "a.txt~3": "dog", "a.txt~4": "fox"})
+
+    def test_a_later_name(self):
+        for name in ("one/a.txt", "one/b.txt", "two/a.txt"):
+            self.note(name, name)
+        self.folder("one")
+        self.folder("two")
+        os.remove(self.at("one/a.txt"))
+        self.assertIn("and deleted", self.folder("one", "--prune"))
+        # The first name is free now.
+        self.assertIn("0 added, 1 unchanged\n", self.folder("two"))
+        self.note("two/a.txt", "changed")
+        self.assertIn("0 added, 1 changed\n", self.folder("two", "--prune"))
+        self.note("two/a.txt", b"\xff")
+        self.assertIn("refused 'a.txt'", self.folder("two", "--prune", expect=1))
+        os.remove(self.at("two/a.txt"))
+        os.symlink("a.txt", self.at("two/a.txt"))
+        self.assertIn("refused 'a.txt': Too many levels", self.folder("two", "--prune", expect=1))
+        self.assertEqual(self.bodies(), {"b.txt": "one/b.txt", "a.txt~2": "changed"})
+
+    def test_a_file_that_is_named_like_a_second_one(self):
+        self.note("one/a~2", "own")
+        self.folder("one")
+        # Of the same size and time, and of another one, beside the same of another folder.
+        for name, text in (("one/a", "red"), ("one/a", "brown")):
+            self.note(name, text)
+            said = "1 added, 1 unchanged" if text == "red" else "1 changed, 1 unchanged"
+            self.assertIn(said, self.folder("one", "--prune"))
+            self.assertEqual(self.bodies(), {"a~2": "own", "a": text})
+        for path in (self.path, self.path + ".stamps", self.at("one/a")):
+            os.remove(path)
+        self.note("two/a", "of another folder")
+        self.folder("one")
+        self.folder("two")
+        self.note("one/a", "brown")
+        for said in ("1 added, 1 unchanged", "0 added, 2 unchanged"):
+            self.assertIn(said, self.folder("one", "--prune"))
+            self.assertEqual(self.bodies(), {"a~2": "own", "a": "of another folder", "a~3": "brown"})
+
+    def test_messages_of_one_name(self):
+        self.documents(("x", "1"), ("x", "2"), ("x", "3"), ("x", "2"), ("y", "1"))
+        self.assertEqual(self.bodies(), {"x": "1", "x~2": "2", "x~3": "3", "y": "1"})
+        said = self.documents(("x", "3"), ("x", "2"), ("y", "1"), prune=True)
+        self.assertIn("0 added, 3 unchanged", said)
+        self.assertIn("1 document of earlier runs not seen any more, and deleted", said)
+        self.assertIn("1 added, 3 unchanged", self.documents(("x", "3"), ("x", "2"), ("x", "4"), ("y", "1")))
+        self.assertEqual(self.bodies(), {"x": "4", "x~2": "2", "x~3": "3", "y": "1"})
+
+    def test_many_messages_of_one_name(self):
+        calls = []
+
+        def counted(name, number):
+            calls.append(number)
+            return stamps.numbered(name, number)
+
+        many = [("x", str(number)) for number in range(300)]
+        with mock.patch.object(importing, "numbered", counted):
+            self.assertIn("300 added", self.documents(*many))
+            self.assertIn("0 added, 300 unchanged", self.documents(*many))
+            self.assertIn("1 added, 300 unchanged", self.documents(*many, ("x", "new")))
+            self.assertLess(len(calls), 1_500)
+            calls.clear()
+            with mock.patch.object(sys, "stdout", io.TextIOWrapper(io.BytesIO())):
+                found = [importing.Document(*name, lambda: importing.Text("", "")) for name in many]
+                self.assertEqual(importing.write_lines(importing.Log("mail", io.StringIO()), found, False), 0)
+            self.assertLess(len(calls), 700)
+
+    def test_a_folder_that_has_moved(self):
+        for name in ("a.txt", "b.txt", "c.txt"):
+            self.note(f"old/{name}", name)
+        self.folder("old")
+        self.assertIn("it is still there", self.folder("old", "--moved-from", "old", expect=3))
+        shutil.move(self.at("old"), self.at("new"))
+        self.note("new/a.txt", "changed", 1)
+        os.remove(self.at("new/b.txt"))
+        before = {path: self.read(path) for path in (self.path, self.path + ".stamps")}
+        self.assertIn("nothing was brought in from", self.folder("new", "--moved-from", "older", expect=3))
+        # It could as well be another folder, and the older one not be mounted: what has changed there has a name of its own.
+        said = self.folder("new", "--prune")
+        self.assertIn("2 documents: 1 added, 1 unchanged", said)
+        self.assertIn(f"2 documents of earlier runs came from {self.at('old')}, not there any more; --moved-from says", said)
+        self.assertEqual(self.bodies(), {"a.txt": "a.txt", "b.txt": "b.txt", "c.txt": "c.txt", "a.txt~2": "changed"})
+        said = self.folder("new", "--prune", "--moved-from", "old")
+        self.assertIn("2 documents: 0 added, 2 unchanged", said)
+        self.assertIn("2 documents of earlier runs not seen any more, and deleted", said)
+        self.assertNotIn("not there any more", self.folder("new"))
+        self.assertEqual(self.bodies(), {"c.txt": "c.txt", "a.txt~2": "changed"})
+        # Where that is said at once, nothing has another name.
+        for path, content in before.items():
+            self.write(path, content)
+        self.assertIn("2 documents: 0 added, 1 changed, 1 unchanged", self.folder("new", "--prune", "--moved-from", "old"))
+        self.assertEqual(self.bodies(), {"c.txt": "c.txt", "a.txt": "changed"})
+
+    def test_two_kinds_at_one_path(self):
+        self.note("box/cur/1", "of a message")
+        message, others = ("m1@x", "letter", "cur/1"), ("m2@x", "letter", "cur/2")
+        self.documents(message, others)
+        self.assertIn("1 document: 1 added\n", self.folder("box", "--prune"))
+        self.assertIn("0 added, 2 unchanged\n", self.documents(message, others, prune=True))
+        self.assertEqual(sorted(self.bodies()), ["cur/1", "m1@x", "m2@x"])
+        self.assertEqual({source.kind for source in stamps.Records(self.path + ".stamps").sources.values()}, {"mail", "folder"})
+        # In the stamps of a version before both are one source, of the kind that came last.
+        known = stamps.digest(self.at("box").encode(), 4)
+        lines = [re.sub(r"^([^=]\S* \S+ \S+) \S+", rf"\1 {known}", line) for line in self.read(self.path + ".stamps").decode().splitlines()]
+        self.note("box/cur/0", "of a message")
+        index = self.read(self.path)
+        for kind, run in (
+            ("folder", lambda: self.folder("box", "--prune")),
+            ("mail", lambda: self.documents(message, ("m3@x", "letter", "cur/3"), prune=True)),
+        ):
+            self.write("x.alta", index)
+            self.write("x.alta.stamps", "".join(f"{line}\n" for line in lines if line[0] != "=") + f"= {known} {kind} {self.at('box')}\n")
+            run()
+            self.assertLessEqual({"cur/1", "m1@x"}, set(self.bodies()), kind)
+
+    def test_packages_of_two_files(self):
+        for name, stanzas in (("one", "ab"), ("two", "bc"), ("pipe", "de")):
+            self.write(name, "".join(f"Package: {each}\nDescription: {each}\n\n" for each in stanzas))
+        self.main(packages, self.path, self.at("one"))
+        with open(self.at("pipe")) as file:
+            self.run_script("packages.py", self.path, stdin=file)
+        self.assertNotIn("deleted", self.main(packages, "--prune", self.path, self.at("two")))
+        self.assertEqual(sorted(self.bodies()), ["a", "b", "c", "d", "e"])
+        self.write("two", "Package: b\nDescription: b\n\n")
+        self.assertIn("1 document of earlier runs not seen any more, and deleted", self.main(packages, "--prune", self.path, self.at("two")))
+        # A list that another one has followed.
+        os.remove(self.at("one"))
+        said = self.main(packages, "--prune", self.path, self.at("two"))
+        self.assertIn(f"1 document of earlier runs came from {self.at('one')}, not there any more", said)
+        self.assertIn("1 document", self.main(packages, "--prune", "--moved-from", self.at("one"), self.path, self.at("two")))
+        self.assertEqual(sorted(self.bodies()), ["b", "d", "e"])
+
+    def test_one_import_at_a_time(self):
+        self.note("notes/a", "text")
+        self.folder("notes")
+        other = stamps.Stamps(self.path + ".stamps")
+        before = self.read(self.path)
+        self.note("notes/b", "text")
+        said = self.folder("notes", "--wait=0", expect=3)
+        self.assertEqual(said, f"folder: {self.path}: another import into it is at work\n")
+        with mock.patch.object(stamps, "SECONDS_OF_SILENCE", 0):
+            said = self.folder("notes", "--wait=0.1", expect=3)
+        self.assertEqual(said.count(f"folder: {self.path}: another import into it is at work"), 2)
+        self.assertEqual(self.read(self.path), before)
+        other.close()
+        self.assertIn("1 added, 1 unchanged", self.folder("notes", "--wait=0"))
+        # Stamps that are written anew stay locked, also for who had the older file open.
+        self.write("many", "\n" * 2_000)
+        older = os.open(self.at("many"), os.O_WRONLY)
+        other = stamps.Stamps(self.at("many"))
+        self.assertEqual(os.path.getsize(self.at("many")), 0)
+        self.assertTrue(stamps.is_locked(older))
+        self.assertFalse(stamps.is_at(older, self.at("many")))
+        os.close(older)
+        self.assertRaises(stamps.InUse, stamps.Stamps, self.at("many"), 0)
+        other.close()
+        stamps.Stamps(self.at("many"), 0).close()
+
+    def test_two_imports_through_a_server(self):
+        self.note("notes/a", "of a file")
+        self.documents()
+        with mock.patch.dict(os.environ, {"BUNCOCEDAR_PROGRAM": FAKE}):
+            server = subprocess.Popen([sys.executable, os.path.join(TOP, "client", "server.py"), self.path], stderr=subprocess.PIPE)
+        self.addCleanup(server.wait)
+        self.addCleanup(server.kill)
+        self.addCleanup(server.stderr.close)
+        until(lambda: os.path.exists(self.path + ".socket"))
+        slow = self.start("packages.py", self.path, stdin=subprocess.PIPE)
+        slow.stdin.write("Package: b\nDescription: b\n\n")
+        slow.stdin.flush()
+        until(lambda: b"add b" in self.read(self.path))
+        self.assertIn("another import into it is at work", self.folder("notes", "--wait=0", expect=3))
+        slow.stdin.write("Package: a\nDescription: of a package\n\n")
+        self.assertIn("2 documents: 2 added\n", slow.communicate(timeout=PATIENCE)[1])
+        self.assertIn("1 document: 1 added\n", self.folder("notes"))
+        self.assertEqual(self.bodies(), {"a": "", "b": "", "a~2": "of a file"})
+
+    def test_an_interrupt_while_it_prunes(self):
+        class Interrupting(importing.Index):
+            def send_delete(self, name):
+                if name == "2":
+                    os.kill(os.getpid(), signal.SIGINT)
+                return super().send_delete(name)
+
+        for number in range(6):
+            self.note(f"notes/{number}", "text")
+        self.folder("notes")
+        for number in range(5):
+            os.remove(self.at(f"notes/{number}"))
+        with mock.patch.object(importing, "Index", Interrupting), mock.patch.dict(importing.Interrupts.notes, clear=True):
+            said = self.folder("--prune", "notes", expect=130)
+        self.assertIn("3 documents of earlier runs not seen any more, and deleted", said)
+        self.assertIn("2 documents of earlier runs not seen any more, and still in the index", said)
+        self.assertIn("interrupted: run this again", said)
+        self.assertEqual(sorted(self.bodies()), ["3", "4", "5"])
+        self.assertIn("2 documents of earlier runs not seen any more, and deleted", self.folder("--prune", "notes"))
+
     def test_a_link_to_a_folder(self):
         self.note("notes/sub/a", "text")
         self.note("others/b", "text")
@@ -629,6 +871,18 @@ class Sources(Case):
                 for name, content in (("text", b"a" * size), ("text.gz", gzip.compress(b"a" * size))):
                     text = folder.text_of(self.write(name, content))
                     self.assertEqual((len(text.body), text.beyond), (min(size, 10_000), max(0, size - 10_000)))
+
+    def test_lines_of_a_source_that_cannot_be_read(self):
+        def documents():
+            yield importing.Document("a", b"", lambda: importing.Text("", ""))
+            raise PermissionError(13, "Permission denied", "mail.mbox")
+
+        for fault, status, said in ((None, 3, "stopped: [Errno 13] Permission denied: 'mail.mbox'"), (KeyboardInterrupt, 130, "broken off")):
+            told = io.StringIO()
+            with contextlib.redirect_stderr(told), mock.patch.object(sys, "stdout", io.TextIOWrapper(io.BytesIO())):
+                with mock.patch.object(importing, "parts_of", side_effect=fault, return_value=[]):
+                    self.assertEqual(importing.bring("mail", "-", None, documents()), status)
+            self.assertEqual(told.getvalue(), f"mail: {said}\n")
 
     def test_an_index_that_cannot_be_put_in_its_place(self):
         # The fake's index is none that could be copied.
