@@ -436,17 +436,20 @@ def read(found):
 
 def named(archive):
     """The messages of an archive by the names that an import into a new index gives them."""
-    used = {}
+    used, met = set(), set()
+    numbers = {}  # of a wanted name the first number that may be free
     for _, raw in messages(archive):
         if isinstance(raw, Unfit):
             continue
         message = Message(raw)
+        if not message.found or message.stamp in met:
+            continue
+        met.add(message.stamp)
         wanted = name_of(message.wanted)
-        names = (numbered(wanted, number) for number in itertools.count(1))
-        name = next(name for name in names if used.get(name, message.stamp) == message.stamp)
-        if message.found and name not in used:
-            used[name] = message.stamp
-            yield name, raw
+        while (name := numbered(wanted, numbers.setdefault(wanted, 1))) in used:
+            numbers[wanted] += 1
+        used.add(name)
+        yield name, raw
 
 
 def show(archive, name, as_it_stands):
