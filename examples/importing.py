@@ -76,6 +76,7 @@ class Document(NamedTuple):
 
     `place` is where it stands in its source, as `stamps.Place` spells it. `exact` says whether documents of one name and stamp
     are the same: where it is false, as of the size and time of a file, they are where they stand at one place of one source.
+    `former` is the stamp that the scripts of before gave it, where that was another one.
     """
 
     wanted: str
@@ -83,6 +84,7 @@ class Document(NamedTuple):
     load: Callable[[], Text]
     place: str = ""
     exact: bool = True
+    former: bytes = b""
 
 
 class Unfit(Exception):
@@ -108,6 +110,11 @@ def has_content(document, content):
     except Exception:
         # It is looked at once more when it is sent, and then refused.
         return False
+
+
+def stands(top, place=Place()):
+    """Whether this place of a source is still there. Its path was the real one: where a link leads on from it now, it has moved."""
+    return os.path.realpath(top) == top and os.path.exists(below(top, place))
 
 
 def spaced(text):
@@ -338,7 +345,9 @@ class Import:
         self.archives = {below(source.path, Place(options.file))}  # where the documents stand, or stood before
         self.sources = set()
         if options.moved_from is not None:
-            self.note_move(source.kind, os.path.realpath(options.moved_from))
+            old = os.path.abspath(options.moved_from)
+            is_known = any(self.is_from(stamp, source.kind, old) for stamp in stamps.of.values())
+            self.note_move(source.kind, old if is_known else os.path.realpath(old))
         self.source = stamps.source(*source)
         self.sources.add(self.source)
         self.live = {name: number for number, name in index.search(EVERY_DOCUMENT)}
@@ -381,7 +390,7 @@ class Import:
 
     def note_move(self, kind, path):
         """Takes what was brought in from another path for what stands in this source."""
-        if os.path.exists(path):
+        if stands(path):
             raise Unusable(f"nothing has moved from {path}: it is still there")
         self.sources = {stamp.source for stamp in self.stamps.of.values() if self.is_from(stamp, kind, path)}
         if not self.sources:
@@ -419,7 +428,7 @@ class Import:
         stamp = digest(FORM + document.stamp)
         names = [wanted, *self.later.get((wanted[:FRONT_LIMIT], stamp), ())]
         for name in names:
-            if self.used.get(name) == stamp and is_numbered(name, wanted):
+            if document.exact and self.used.get(name) == stamp and is_numbered(name, wanted):
                 return name, stamp, "repeated"
         name = self.name_it_has(document, wanted, stamp, names) or self.name_it_gets(document, wanted)
         self.used[name] = stamp
@@ -465,7 +474,7 @@ class Import:
         source = self.stamps.sources.get(known.source)
         if known.stamp != stamp or source is None:
             return False
-        return not os.path.exists(below(source.path, place_of(document.place))) and has_content(document, known.content)
+        return not stands(source.path, place_of(document.place)) and has_content(document, known.content)
 
     def name_it_gets(self, document, wanted):
         """The first name that no other document has: it is free, or this one's of before."""
@@ -479,6 +488,8 @@ class Import:
 
     def is_older(self, document, known):
         """Whether what has another stamp can be the document as it was before."""
+        if document.former and known.stamp == digest(FORM + document.former):
+            return True
         return known.source in self.sources and (document.exact or known.place in ("", document.place))
 
     def take(self, document):
@@ -647,9 +658,13 @@ class Import:
                 self.gone.append(name)
             else:
                 others[archive] = others.get(archive, 0) + 1
-        if self.sent or self.unseen or not self.used:
+        if self.sent or self.unseen or self.gave_nothing():
             self.gone = []
-        self.missing = {path: count for path, count in others.items() if os.path.isabs(path) and not os.path.exists(path)}
+        self.missing = {path: count for path, count in others.items() if os.path.isabs(path) and not stands(path)}
+
+    def gave_nothing(self):
+        """Whether the source had no document, or only what is none."""
+        return sum(self.counts.values()) == self.counts["passed over"]
 
     def is_of_kind(self, kind, name, stamp):
         """Whether a document was brought in from a source of this kind.
@@ -738,7 +753,7 @@ class Import:
         left = len(self.gone) - self.pruned
         if left:
             self.log.say(f"{several(left)} of earlier runs not seen any more, and still in the index; --prune deletes such")
-        if self.options.prune and (self.unseen or not self.used):
+        if self.options.prune and (self.unseen or self.gave_nothing()):
             self.log.say("nothing was pruned: the source gave nothing, or not all of it could be looked at")
         if self.missing:
             archive, *others = self.missing
@@ -789,7 +804,7 @@ def bring(tool, path, source, documents, options=Options(), fast=False):
     try:
         if path == "-":
             return write_lines(log, documents, options.whole)
-        if fast and os.path.exists(path) and os.path.getsize(path):
+        if fast and (os.path.islink(path) or os.path.exists(path) and os.path.getsize(path)):
             log.say(f"{path} is there already, so it is added to where it stands")
             fast = False
         if fast:

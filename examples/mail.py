@@ -44,8 +44,10 @@ WORDS = re.compile(rf"{WORD}(?:\s*{WORD})*")
 UNUSED_CODECS = ("ascii", "idna", "punycode")
 # What the email package raises at parameters that contradict each other, and at charsets of no known form.
 ODD = (LookupError, TypeError, ValueError)
-COMMENT = re.compile("<!--(?:-?>|.*?-->)", re.DOTALL)
-DECLARATION = re.compile("<[!?][^>]*>")
+# Up to its end tag a script or a style has no comments and no declarations.
+RAW = r"(<(script|style)\b[^>]*>.*?(?:</\2|\Z))"
+COMMENT = re.compile(RAW + "|<!--(?:-?>|.*?-->)", re.DOTALL | re.IGNORECASE)
+DECLARATION = re.compile(RAW + "|<[!?][^>]*>", re.DOTALL | re.IGNORECASE)
 HUGE_NUMBER = re.compile("&#[0-9]{20,};?")
 META_CHARSET = re.compile(rb"(?i)<meta[^>]*charset\s*=\s*[\"']?(?!utf-?16|utf-?32)([\w:.-]+)")
 META_LIMIT = 1024  # bytes of an HTML part in which its charset is looked for
@@ -262,10 +264,10 @@ def text_of_html(source):
     """
     source = HUGE_NUMBER.sub("\ufffd", source)
     end = source.rfind("-->") + 3
-    source = COMMENT.sub("", source[:end]) + source[end:]
+    source = COMMENT.sub(lambda found: found[1] or "", source[:end]) + source[end:]
     end = source.rfind(">") + 1
     reader = Shown()
-    reader.feed(DECLARATION.sub("", source[:end]))
+    reader.feed(DECLARATION.sub(lambda found: found[1] or "", source[:end]))
     reader.close()
     reader.handle_data(html.unescape(source[end:]))
     return "".join(reader.pieces)
@@ -375,7 +377,13 @@ def head_of(found, attached):
 
 def text_of_message(found, body):
     message = parsed(found, body)
-    shown = list(map(text_of, texts_in(message)))
+    try:
+        texts = texts_in(message)
+    except RecursionError:
+        # It is nested too deep: its body is one text.
+        message = email.message_from_bytes(b"\n" + body)
+        texts = [message]
+    shown = list(map(text_of, texts))
     head = head_of(found, filter(None, map(file_name, message.walk())))
     title = heading(value(found, b"subject"))
     return Text(title, "\n".join(text for text, _ in shown), sum(beyond for _, beyond in shown), head)
@@ -404,7 +412,7 @@ def documents(messages):
             continue
         message = Message(raw)
         if message.found:
-            yield Document(message.wanted, FORM + message.stamp.encode(), message.text, place)
+            yield Document(message.wanted, FORM + message.stamp.encode(), message.text, place, former=message.stamp.encode())
         elif raw.strip():
             yield Document("text between messages", raw, raised(Unfit("it has no header")))
 

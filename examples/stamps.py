@@ -31,7 +31,7 @@ FRONT_LIMIT = 56  # characters with which all names of documents begin that want
 SECONDS_OF_SILENCE = 1.0  # in a wait for another import
 
 _NAME = "[!-~]{1,64}"
-_STAMP = re.compile(f"({_NAME}) ([1-9][0-9]*(?:,[1-9][0-9]*)*) ([0-9a-f]{{32}}) ([0-9a-f]{{8}})(?: ([!-~]+)(?: ([0-9a-f]{{32}}))?)?".encode())
+_STAMP = re.compile(f"({_NAME}) ([1-9][0-9]*(?:,[1-9][0-9]*)*) ([0-9a-f]{{32}}) ([0-9a-f]{{8}})(?: (?=[!-~])([!-?A-~]*(?:@[0-9]+\\+[0-9]+)?)(?: ([0-9a-f]{{32}}))?)?".encode())
 _SOURCE = re.compile(b"= ([0-9a-f]{8}) ([a-z]+) ([!-~]+)")
 _GONE = re.compile(f"- ({_NAME})".encode())
 _PART = re.compile("(.+)~p([1-9][0-9]*)", re.DOTALL)

@@ -734,6 +734,54 @@ class Sources(Case):
         self.assertIn("2 documents: 0 added, 1 changed, 1 unchanged", self.folder("new", "--prune", "--moved-from", "old"))
         self.assertEqual(self.bodies(), {"c.txt": "c.txt", "a.txt": "changed"})
 
+    def test_a_folder_that_left_a_link(self):
+        self.note("old/a.txt", "red")
+        self.folder("old")
+        shutil.move(self.at("old"), self.at("new"))
+        os.symlink("new", self.at("old"))
+        stored = self.read(self.path), self.read(self.path + ".stamps")
+        self.assertIn("0 added, 1 unchanged", self.folder("new"))
+        self.assertEqual(self.bodies(), {"a.txt": "red"})
+        self.write("x.alta", stored[0])
+        self.write("x.alta.stamps", stored[1])
+        self.note("new/a.txt", "changed", 1)
+        self.assertIn("0 added, 1 changed", self.folder("new", "--moved-from", "old"))
+        self.assertEqual(self.bodies(), {"a.txt": "changed"})
+
+    def test_messages_made_anew_in_two_archives(self):
+        self.documents(("x", "before x"), ("y", "before y"), source="one")
+        self.documents(("x", "before x"), source="two")
+        former = [importing.Document(name, f"now {name}".encode(), lambda name=name: importing.Text("", name), former=f"before {name}".encode()) for name in "xy"]
+        for source, found in (("one", former), ("two", former[:1]), ("one", former)):
+            with mock.patch.dict(os.environ, {"BUNCOCEDAR_PROGRAM": FAKE}), contextlib.redirect_stderr(io.StringIO()):
+                importing.bring("mail", self.path, stamps.Source("mail", self.at(source)), found)
+            self.assertEqual(sorted(self.bodies()), ["x", "y"], source)
+
+    def test_a_line_torn_in_its_place(self):
+        self.documents(("x", "1", "@3+40"), source="one")
+        self.documents(("y", "2", "@0+3"), source="two")
+        lines = self.read(self.path + ".stamps")
+        self.write("x.alta.stamps", lines.replace(b"@3+40\n", b"@3\n"))
+        self.assertIn("0 added, 1 unchanged", self.documents(("y", "2", "@0+3"), source="two"))
+        self.assertIn("1 added again", self.documents(("x", "1", "@3+40"), source="one"))
+
+    def test_nothing_but_links_to_folders(self):
+        self.note("box/a.txt", "red")
+        os.symlink(self.at("elsewhere"), self.at("box/link"))
+        os.mkdir(self.at("elsewhere"))
+        self.folder("box")
+        os.remove(self.at("box/a.txt"))
+        self.assertIn("nothing was pruned", self.folder("box", "--prune"))
+        self.assertEqual(self.bodies(), {"a.txt": "red"})
+
+    def test_a_file_named_like_a_second_one_in_another_folder(self):
+        self.note("one/a", "red")
+        for name, text in (("a", "fox"), ("a~2", "dog")):
+            self.note(f"two/{name}", text)
+        self.folder("one")
+        self.assertIn("2 added", self.folder("two"))
+        self.assertEqual(sorted(self.bodies().values()), ["dog", "fox", "red"])
+
     def test_two_kinds_at_one_path(self):
         self.note("box/cur/1", "of a message")
         message, others = ("m1@x", "letter", "cur/1"), ("m2@x", "letter", "cur/2")
@@ -967,6 +1015,7 @@ class Mail(Case):
             (html, b"<b>H</b>ello wo<span>rld</span><o:p></o:p>s<br>a<td>b</td>c<P>d", "h", "Hello worlds a b c d"),
             (html, b"<style><!-- p > a {} --></style><!--[if !mso]><!-->red<!--<![endif]--> <!-->fox<!-- no > dog", "h", "red fox dog"),
             (html, b"a < b <!DOCTYPE x>c<?xml y?>d &lt;e&gt; &#" + b"9" * 5000 + b"; f <a href", "h", "a < b cd <e> \ufffd f <a href"),
+            (html, b"<style><!-- p{} </style><body>hello<!--[if mso]>x<![endif]--> fox<script>if(a<!b){c()}</SCRIPT> dog", "h", "hello fox dog"),
             (html, b"<meta charset='windows-1251'>\xec\xe8\xf0", "h", "\u043c\u0438\u0440"),
             (html, b"<META content=\"text/html; charset = koi8-r\">\xcd\xc9\xd2", "h", "\u043c\u0438\u0440"),
             (html + b"; charset=us-ascii", b"<meta charset=koi8-r>\xcd\xc9\xd2", "h", "\u043c\u0438\u0440"),
@@ -1045,6 +1094,9 @@ class Mail(Case):
 
     def test_parts_in_parts(self):
         """Without an end to them, as deep as they go, and in as much room as the message has."""
+        for levels in (10, 700, 900):
+            inner = b"Content-Type: message/rfc822\n\n" * levels
+            self.assertIn("fox", mail.Message(b"Subject: deep\n" + inner + b"Subject: x\n\nfox").text().body.split(), levels)
         deep = b"".join(b"Content-Type: multipart/mixed; boundary=b%d\n\n--b%d\n\ntext %d\n--b%d\n" % ((level,) * 4) for level in range(5000))
         text = mail.Message(b"Subject: deep\n" + deep).text()
         self.assertLessEqual({str(level) for level in range(5000)}, set(text.body.split()))
@@ -1616,6 +1668,10 @@ class RealProgram(Case):
         said = self.run_script("mail.py", "--fast", self.path, path)
         self.assertIn("x.alta is there already", said)
         self.assertIn("60 documents: 10 added, 50 unchanged\n", said)
+        # Where a link leads an index is made as without --fast.
+        os.symlink("z.alta", self.at("link"))
+        self.assertIn("added to where it stands", self.run_script("mail.py", "--fast", self.at("link"), path))
+        self.assertTrue(os.path.islink(self.at("link")) and os.path.getsize(self.at("z.alta")))
         # An interrupt keeps what was done.
         self.path = self.at("y.alta")
         process = self.start("packages.py", "--fast", self.path, stdin=subprocess.PIPE)
