@@ -13,7 +13,6 @@ line of a name or of a source counts.
 Who writes the file holds its lock (`flock`), from before it is read: of two imports into one index the second waits.
 """
 
-import fcntl
 import hashlib
 import os
 import re
@@ -24,6 +23,7 @@ from urllib.parse import quote, unquote_to_bytes
 import checkout  # noqa: F401
 
 from buncocedar import InUse
+from buncocedar.beside import is_at, lock
 
 NAME_LIMIT = 64
 STEM_LIMIT = 58  # characters of a name before the end of a part, as `~p2`
@@ -261,7 +261,8 @@ def locked_file(path, patience=0.0, on_wait=lambda why: None):
     is_said = False
     while True:
         handle = os.open(path, os.O_WRONLY | os.O_CREAT | os.O_APPEND, 0o666)
-        if is_locked(handle) and is_at(handle, path):
+        # Who had it before may have written it anew.
+        if lock(handle) and is_at(handle, path):
             return handle
         os.close(handle)
         waited = time.monotonic() - begun
@@ -271,26 +272,6 @@ def locked_file(path, patience=0.0, on_wait=lambda why: None):
             is_said = True
             on_wait(why)
         time.sleep(0.05)
-
-
-def is_locked(handle):
-    """Locks a file until its handle is closed; false where another one has it."""
-    try:
-        fcntl.flock(handle, fcntl.LOCK_EX | fcntl.LOCK_NB)
-    except BlockingIOError:
-        return False
-    except OSError:
-        # The file system has no locks.
-        pass
-    return True
-
-
-def is_at(handle, path):
-    """Whether the file is still the one at this path: who had it before may have written it anew."""
-    try:
-        return os.path.samestat(os.fstat(handle), os.stat(path))
-    except FileNotFoundError:
-        return False
 
 
 def stamp_line(name, stamp):

@@ -840,7 +840,7 @@ class Sources(Case):
         older = os.open(self.at("many"), os.O_WRONLY)
         other = stamps.Stamps(self.at("many"))
         self.assertEqual(os.path.getsize(self.at("many")), 0)
-        self.assertTrue(stamps.is_locked(older))
+        self.assertTrue(stamps.lock(older))
         self.assertFalse(stamps.is_at(older, self.at("many")))
         os.close(older)
         self.assertRaises(stamps.InUse, stamps.Stamps, self.at("many"), 0)

@@ -17,7 +17,6 @@ import contextlib
 import copy
 import datetime
 import errno
-import fcntl
 import operator
 import os
 import re
@@ -37,7 +36,7 @@ import weakref
 from collections import deque
 from typing import Any, Callable, Iterable, Iterator, List, NamedTuple, Optional, Tuple, Union
 
-from .beside import give_rights, making
+from .beside import give_rights, is_at, lock, making
 
 __version__ = "0.1.0"
 __all__ = [
@@ -1531,7 +1530,7 @@ def _turn(path):
                 yield _lock(handle) and not _is_locked(path)
             return
         # Who comes later locks another one, where this was taken away meanwhile.
-        is_mine = _lock(file) and _is_at(file, place)
+        is_mine = lock(file) and is_at(file, place)
         try:
             yield is_mine and not _is_locked(path)
         finally:
@@ -1543,14 +1542,6 @@ def _turn(path):
 def _is_empty_file(handle):
     found = os.fstat(handle)
     return stat.S_ISREG(found.st_mode) and found.st_size == 0
-
-
-def _is_at(handle, path):
-    """Whether the handle is of what stands at the path."""
-    try:
-        return os.path.samestat(os.fstat(handle), os.lstat(path))
-    except OSError:
-        return False
 
 
 def _is_locked(path):
@@ -1574,16 +1565,8 @@ def _opened(path, flags):
 
 
 def _lock(handle):
-    """Locks what the handle is of until it is closed; false where another handle has it locked."""
-    try:
-        if handle is not None:
-            fcntl.flock(handle, fcntl.LOCK_EX | fcntl.LOCK_NB)
-    except BlockingIOError:
-        return False
-    except OSError:
-        # The file system has no locks.
-        pass
-    return True
+    """Locks what the handle is of, as `lock` does; without a handle there is nothing to lock."""
+    return handle is None or lock(handle)
 
 
 class _Waiting:

@@ -1,4 +1,4 @@
-"""What is made beside an index: who may use it, and folders for a file that is to be whole or not there.
+"""What is made beside an index: who may use it, its lock, and folders for a file that is to be whole or not there.
 
 Such a file is made in a folder of its own, and moved into place at the end.
 
@@ -38,6 +38,26 @@ def give_rights(path: str, like: os.stat_result) -> None:
     os.chmod(path, 0o600 | rights)
 
 
+def lock(handle: int) -> bool:
+    """Locks what the handle is of until it is closed; false where another handle has it locked."""
+    try:
+        fcntl.flock(handle, fcntl.LOCK_EX | fcntl.LOCK_NB)
+    except BlockingIOError:
+        return False
+    except OSError:
+        # The file system has no locks.
+        pass
+    return True
+
+
+def is_at(handle: int, path: str) -> bool:
+    """Whether the handle is of the file at the path: another one may stand there by now."""
+    try:
+        return os.path.samestat(os.fstat(handle), os.stat(path))
+    except OSError:
+        return False
+
+
 @contextlib.contextmanager
 def making(parent: str, prefix: str = PREFIX) -> Iterator[str]:
     """The path for a file to be made at, in a folder of its own in this one, which is taken away at the end.
@@ -46,12 +66,12 @@ def making(parent: str, prefix: str = PREFIX) -> Iterator[str]:
     """
     with contextlib.suppress(OSError):
         remove_left(parent, prefix)
-    folder, lock = _locked_folder(parent, prefix)
+    folder, handle = _locked_folder(parent, prefix)
     try:
         yield os.path.join(folder, MADE)
     finally:
         shutil.rmtree(folder, ignore_errors=True)
-        os.close(lock)
+        os.close(handle)
 
 
 def remove_left(parent: str, prefix: str = PREFIX) -> List[str]:
