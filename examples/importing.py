@@ -41,9 +41,10 @@ from stamps import (
     stem_of,
 )
 
-import buncocedar
-from buncocedar import Error, Full, Index, Refused
+from buncocedar import LINE_LIMIT, Error, Full, Index, Refused, add_line
 from buncocedar.beside import PREFIX, making, remove_left
+from buncocedar.lines import TITLE_ROOM
+from buncocedar.texts import fitted, one_line
 
 EVERY_DOCUMENT = "NOT name:! OR name:!"
 TEXT_LIMIT = 33_554_432  # bytes of a text that are looked at
@@ -166,8 +167,8 @@ def joined(*texts):
 
 def parts_of(name, text, whole):
     """The parts of a document, each a (name, title, body). Raises `Unfit` where `whole` asks for one and it has more."""
-    title, body, head = (buncocedar.one_line(spaced(part)) for part in (text.title, text.body, text.head))
-    limit, room = buncocedar.LINE_LIMIT, buncocedar.TITLE_ROOM
+    title, body, head = (one_line(spaced(part)) for part in (text.title, text.body, text.head))
+    limit, room = LINE_LIMIT, TITLE_ROOM
     length = len(f"add {name}\t{title}\t{joined(head, body)}".encode())
     if length <= limit:
         return [(name, title, joined(head, body))]
@@ -175,7 +176,7 @@ def parts_of(name, text, whole):
         raise Unfit(f"its line has {length:,} bytes where {limit:,} may be")
     if len(head.encode()) > room:
         head, body = "", joined(head, body)
-    short = buncocedar.fitted(title, room)
+    short = fitted(title, room)
     if short != title:
         body = joined(title, body)
     front = len(f"add \t{short}\t{head} ".encode()) + 64
@@ -728,7 +729,7 @@ class Import:
         if counts["passed over"] and not self.options.verbose:
             self.log.say("what is passed over is no text; --verbose lists it")
         if self.in_parts:
-            self.log.say(f"{several(self.in_parts)} in parts, since a line has {buncocedar.LINE_LIMIT:,} bytes")
+            self.log.say(f"{several(self.in_parts)} in parts, since a line has {LINE_LIMIT:,} bytes")
         if self.unread:
             self.log.say(f"{several(self.unread)} cut")
         self.report_gone()
@@ -899,7 +900,7 @@ def write_lines(log, documents, whole):
             continue
         try:
             for part in parts:
-                sys.stdout.buffer.write(buncocedar.add_line(*part)[0])
+                sys.stdout.buffer.write(add_line(*part)[0])
             sys.stdout.buffer.flush()
         except OSError as error:
             # What is still buffered goes nowhere, so that the end says nothing of it.

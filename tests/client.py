@@ -33,7 +33,8 @@ sys.path.insert(0, os.path.join(TOP, "client"))
 
 import buncocedar  # noqa: E402
 import fake  # noqa: E402
-from buncocedar import Index, beside  # noqa: E402
+from buncocedar import Index, beside, errors, holders, making, texts  # noqa: E402
+from buncocedar.index import LINES_UNDER_WAY  # noqa: E402
 
 FAKE = fake.installed()
 PROGRAM = None
@@ -97,7 +98,7 @@ class Texts(unittest.TestCase):
             (lambda: buncocedar.add_line(1, "", ""), "a name must be a str, not int"),
             (lambda: buncocedar.add_line("a", None, ""), "a title must be a str, not NoneType"),
             (lambda: buncocedar.add_line("a", "", b"x"), "a body must be a str, not bytes"),
-            (lambda: buncocedar.one_line(["x"]), "a text must be a str, not list"),
+            (lambda: texts.one_line(["x"]), "a text must be a str, not list"),
             (lambda: buncocedar.name_ok(b"a"), "a name must be a str, not bytes"),
         ]:
             with self.assertRaises(TypeError) as raised:
@@ -116,11 +117,11 @@ class Texts(unittest.TestCase):
         self.assertTrue(line.endswith(b"word\tbody\n"))
         line, dropped = buncocedar.add_line("a", "", "\u65e5" * 160_000, cut=True)
         self.assertEqual(line.decode().count("\u65e5"), (262_143 - 7) // 3)
-        self.assertEqual(buncocedar.fitted("red fox", 5), "red")
-        self.assertEqual(buncocedar.fitted("red fox", 3), "red")
-        self.assertEqual(buncocedar.fitted("red  fox", 4), "red")
-        self.assertEqual(buncocedar.fitted("red", 2), "re")
-        self.assertEqual(buncocedar.fitted(" reddish", 3), " re")
+        self.assertEqual(texts.fitted("red fox", 5), "red")
+        self.assertEqual(texts.fitted("red fox", 3), "red")
+        self.assertEqual(texts.fitted("red  fox", 4), "red")
+        self.assertEqual(texts.fitted("red", 2), "re")
+        self.assertEqual(texts.fitted(" reddish", 3), " re")
 
     def test_ranges_of_values(self):
         day, moment = datetime.date(2024, 1, 31), datetime.datetime(2024, 12, 1, 23, 59)
@@ -306,7 +307,7 @@ class Calls(Case):
             self.assertEqual(list(rows), [(2, "b"), (3, "c")])
 
     def test_refusals(self):
-        for reply, kind in buncocedar._REFUSALS.items():
+        for reply, kind in errors.REFUSALS.items():
             with self.fake(say=[1, reply]) as index:
                 with self.assertRaises(kind) as raised:
                     index.add("a", "", "")
@@ -331,7 +332,7 @@ class Calls(Case):
             self.assertEqual(index.stats().documents, 0)
 
     def test_ends(self):
-        for status, kind in {**buncocedar._ENDS, -9: buncocedar.Ended, 0: buncocedar.Ended, 77: buncocedar.Ended}.items():
+        for status, kind in {**errors.ENDS, -9: buncocedar.Ended, 0: buncocedar.Ended, 77: buncocedar.Ended}.items():
             index = self.fake(end=[2, status])
             answered = index.send_add(f"n{status}", "", "")
             lost = [index.send_add(f"m{status}", "", ""), index.send_delete("zz")]
@@ -381,7 +382,7 @@ class Calls(Case):
         with self.fake() as index:
             index.add("a", "", "")
         # Where one was made meanwhile, it stays.
-        buncocedar._make(FAKE, self.path)
+        making.make_index(FAKE, self.path)
         with self.fake() as index:
             self.assertEqual(index.stats().documents, 1)
         self.assertEqual(os.listdir(self.folder.name), ["x.alta"])
@@ -616,8 +617,8 @@ class Traps(Case):
         long.length = 270_000
         for error in [
             buncocedar.QueryFault("(fox", 4, "Paren"),
-            buncocedar._ended(8, "alta: full, need 321, greatest gap 123"),
-            buncocedar._ended(6, "alta: damaged at 8193"),
+            errors.end_of(8, "alta: full, need 321, greatest gap 123"),
+            errors.end_of(6, "alta: damaged at 8193"),
             buncocedar.ProtocolFault("stats", "what"),
             buncocedar.InUse("busy"),
             long,
@@ -664,20 +665,20 @@ class Messages(Case):
         os.chmod(self.path, 0)
         self.assertEqual(self.said_by_nobody(self.path), f"no right to read {self.path}")
         os.chmod(self.path, 0o644)
-        with unittest.mock.patch.object(buncocedar, "SCANT_ROOM", 1 << 62):
+        with unittest.mock.patch.object(errors, "SCANT_ROOM", 1 << 62):
             self.assertRegex(buncocedar.disk_cause(self.path), r"the disk of .*/x\.alta is full: [0-9,]+ bytes free; make room")
 
     def test_words(self):
         for error, words in [
-            (buncocedar._ended(8, "alta: full, need 3, greatest gap 2", "x.alta"), ["x.alta: alta: full", "(status 8)"]),
-            (buncocedar._ended(6, "alta: damaged at 88", "x.alta"), ["x.alta: alta: damaged at 88", "a copy"]),
-            (buncocedar._ended(-25, "", "x.alta"), ["x.alta: ended by signal 25", "File size limit", "stored"]),
-            (buncocedar._ended(7, "alta: no index", "x.alta"), ["x.alta: alta: no index", "delete it"]),
+            (errors.end_of(8, "alta: full, need 3, greatest gap 2", "x.alta"), ["x.alta: alta: full", "(status 8)"]),
+            (errors.end_of(6, "alta: damaged at 88", "x.alta"), ["x.alta: alta: damaged at 88", "a copy"]),
+            (errors.end_of(-25, "", "x.alta"), ["x.alta: ended by signal 25", "File size limit", "stored"]),
+            (errors.end_of(7, "alta: no index", "x.alta"), ["x.alta: alta: no index", "delete it"]),
             (buncocedar.NoFile("x.alta"), ["x.alta: no index: there is no such file", "create=True"]),
         ]:
             for word in words:
                 self.assertIn(word, str(error))
-        self.assertNotIn("stored", str(buncocedar._ended(2, "alta: disk fault", self.folder.name, opened=False)))
+        self.assertNotIn("stored", str(errors.end_of(2, "alta: disk fault", self.folder.name, opened=False)))
         self.assertNotIn("delete", str(buncocedar.NoFile("x.alta")))
 
     def test_a_file_that_is_missing(self):
@@ -699,7 +700,7 @@ class UnderWay(Case):
     def add_many(self, index, count, body=""):
         outcomes = []
         for name, outcome in index.add_all((f"n{i}", "", body) for i in range(count)):
-            self.assertLessEqual(index.under_way(), buncocedar.LINES_UNDER_WAY)
+            self.assertLessEqual(index.under_way(), LINES_UNDER_WAY)
             self.assertEqual(name, f"n{len(outcomes)}")
             outcomes.append(outcome)
         return outcomes
@@ -878,7 +879,7 @@ class Opening(Case):
     def test_what_stands_at_the_place_of_its_lock(self):
         # What a killed client has left is taken away; what it has not made stays, and hinders nobody.
         self.fake().close()
-        place = os.path.join(self.folder.name, f".x.alta{buncocedar.TURN}")
+        place = os.path.join(self.folder.name, f".x.alta{holders.TURN}")
         for put, stays in [
             (lambda: open(place, "w").close(), False),
             (lambda: pathlib.Path(place).write_text("notes"), True),

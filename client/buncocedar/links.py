@@ -1,0 +1,217 @@
+"""What an index is behind: a program of its own behind pipes, or a server behind a socket. Both are used in the same way."""
+
+from __future__ import annotations
+
+import os
+import re
+import select
+import shutil
+import signal
+import socket
+import stat
+import subprocess
+import sys
+import time
+import warnings
+
+SECONDS_TO_END = 5  # that a program has to end, once it can read no more lines
+
+
+def default_program() -> str:
+    """The path of the program.
+
+    It is what the variable BUNCOCEDAR_PROGRAM says, or `alta` of the checkout that this client is in, or else `alta` or
+    `alta_cli` on the PATH.
+    """
+    top = os.path.dirname(os.path.dirname(os.path.dirname(os.path.abspath(__file__))))
+    checkout = os.path.join(top, "alta")
+    if os.environ.get("BUNCOCEDAR_PROGRAM"):
+        return os.environ["BUNCOCEDAR_PROGRAM"]
+    if os.path.isdir(os.path.join(top, "crates")) and os.path.exists(checkout):
+        return checkout
+    found = shutil.which("alta") or shutil.which("alta_cli")
+    if found is None:
+        raise FileNotFoundError(2, "the program is missing: install it, or set BUNCOCEDAR_PROGRAM to its path", "alta")
+    return found
+
+
+class Said:
+    """What the program says on its standard error. Its status line is kept; all else, as that it is built, is handed on."""
+
+    status_line = re.compile(
+        "alta: (usage: .*|(disk|input|output) fault|out of memory|damaged at [0-9]+|no index|"
+        "full, need [0-9]+, greatest gap [0-9]+|input too long|index exists|not empty, and no index)"
+    )
+
+    def __init__(self, file):
+        self.file = file
+        self.open = True
+        self.line = ""
+        self._rest = b""
+
+    def take(self):
+        """Takes what is there, and tells whether there may be more."""
+        try:
+            data = os.read(self.file, 1 << 16)
+        except BlockingIOError:
+            return False
+        self.open = bool(data)
+        *lines, self._rest = (self._rest + data).split(b"\n")
+        for line in lines:
+            self._hear(line.decode(errors="replace"))
+        return self.open
+
+    def take_all(self):
+        while self.open and self.take():
+            pass
+
+    def _hear(self, line):
+        if self.status_line.fullmatch(line):
+            self.line = line
+        else:
+            print(line, file=sys.stderr)
+
+
+def started(program, path, word, **options):
+    """The program, in a session of its own, so that an interrupt from the terminal ends this client first."""
+    return subprocess.Popen(
+        [program, path, word],
+        stdin=subprocess.PIPE,
+        stdout=subprocess.PIPE,
+        stderr=subprocess.PIPE,
+        bufsize=0,
+        start_new_session=True,
+        # A file that grows past a limit is a fault that the program answers, and no signal.
+        restore_signals=False,
+        **options,
+    )
+
+
+def kill(process):
+    """Ends the program, and what it has started where it is still being built."""
+    if process.poll() is None:
+        try:
+            os.killpg(process.pid, signal.SIGKILL)
+        except ProcessLookupError:
+            pass
+
+
+class Program:
+    """The program of an index, behind its pipes: the files that lines go into, that replies and other words come out of."""
+
+    def __init__(self, program, path, **options):
+        self.process = started(program, path, "run", **options)
+        pipes = (self.process.stdin, self.process.stdout, self.process.stderr)
+        for pipe in pipes:
+            os.set_blocking(pipe.fileno(), False)
+        self.input, self.output, said = (pipe.fileno() for pipe in pipes)
+        self.said = Said(said)
+
+    def close_input(self):
+        """Lets the program end, once it has answered what it was given."""
+        self.input = None
+        self.process.stdin.close()
+
+    give_up_input = close_input
+
+    def kill(self):
+        kill(self.process)
+
+    def takes(self, line):
+        """Whether a line is not part of a reply."""
+        return False
+
+    def ended(self):
+        """Waits for the end, and answers its status and the line of it."""
+        self.close_input()
+        try:
+            status = self.process.wait(SECONDS_TO_END)
+        except subprocess.TimeoutExpired:
+            self.kill()
+            status = self.process.wait()
+        self.said.take_all()
+        self.process.stdout.close()
+        self.process.stderr.close()
+        return status, self.said.line
+
+
+class Service:
+    """The server of an index, behind a socket, which speaks as the program does; when that ends, it says so in a line."""
+
+    said = None
+    end_line = re.compile("! ended (-?[0-9]+) (.*)", re.DOTALL)
+
+    def __init__(self, connection):
+        connection.setblocking(False)
+        self.connection = connection
+        self.input = self.output = connection.fileno()
+        self.status = None, "the server of the index has ended"
+
+    def close_input(self):
+        """Lets the server end this connection, once it has answered what it was given."""
+        self.input = None
+        self.status = 0, ""
+        self._shut(socket.SHUT_WR)
+
+    def give_up_input(self):
+        self.input = None
+
+    def kill(self):
+        self.status = -signal.SIGKILL, "the connection to the server was ended"
+        self._shut(socket.SHUT_RDWR)
+
+    def _shut(self, which):
+        try:
+            self.connection.shutdown(which)
+        except OSError:
+            pass
+
+    def takes(self, line):
+        """Whether a line is not part of a reply."""
+        told = self.end_line.fullmatch(line)
+        if told:
+            self.status = int(told[1]), told[2]
+        return told is not None
+
+    def ended(self):
+        """The status and line of the program's end, where the server told it, or of the server's."""
+        self.connection.close()
+        return self.status
+
+
+def server_path(path: str) -> str:
+    """Where the server of an index listens: a socket beside its file."""
+    return os.path.realpath(path) + ".socket"
+
+
+def connected(path):
+    """A link to the server of the index, or None where none listens that its owner or this user has started."""
+    place = server_path(path)
+    connection = socket.socket(socket.AF_UNIX)
+    try:
+        found = os.lstat(place)
+        if stat.S_ISSOCK(found.st_mode) and found.st_uid in (os.geteuid(), os.stat(path).st_uid):
+            connection.connect(place)
+            return Service(connection)
+    except OSError:
+        # None was started, or the path is too long for one, or it was killed and the socket's file is what it left.
+        pass
+    connection.close()
+    return None
+
+
+def let_go(link, path, owner):
+    """Ends the program of an index that nobody has any more, in the process that started it: what it took it answers."""
+    if os.getpid() != owner:
+        return
+    link.close_input()
+    end = time.monotonic() + SECONDS_TO_END
+    poll = select.poll()
+    poll.register(link.output, select.POLLIN)
+    try:
+        while poll.poll(max(0, end - time.monotonic()) * 1000) and os.read(link.output, 1 << 16):
+            pass
+    except ConnectionResetError:
+        pass
+    link.ended()
+    warnings.warn(f"the index {path} was not closed", ResourceWarning, stacklevel=2)
