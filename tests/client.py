@@ -34,7 +34,7 @@ sys.path.insert(0, os.path.join(TOP, "client"))
 import buncocedar  # noqa: E402
 import fake  # noqa: E402
 from buncocedar import Index, beside, errors, holders, making, texts  # noqa: E402
-from buncocedar.index import LINES_UNDER_WAY  # noqa: E402
+from buncocedar.exchange import LINES_UNDER_WAY  # noqa: E402
 
 FAKE = fake.installed()
 PROGRAM = None

@@ -39,7 +39,7 @@ import sys, time
 sys.path.insert(0, sys.argv[1])
 from buncocedar import Index
 index = Index(sys.argv[2], program=sys.argv[3])
-print(index._link.process.pid, flush=True)
+print(index._exchange.link.process.pid, flush=True)
 time.sleep(600)
 """
 

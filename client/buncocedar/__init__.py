@@ -11,6 +11,7 @@ program has; `send_add`, `send_delete` and `add_all` keep many lines under way a
 and its standard library.
 """
 
+from .cursors import Cursor
 from .errors import (
     BadLine,
     BadName,
@@ -43,7 +44,7 @@ from .errors import (
     disk_cause,
 )
 from .holders import holder
-from .index import Cursor, Index
+from .index import Index
 from .lines import LINE_LIMIT, add_line, value_range
 from .links import default_program, server_path
 from .replies import MOST_BEST, Added, Dumped, Page, Reply, Scored, Skipped, Stats, Top

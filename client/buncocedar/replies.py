@@ -98,14 +98,14 @@ DUMPED = Lines(
 class Reply:
     """The reply to a line that was sent. Replies come in the order of their lines."""
 
-    def __init__(self, index, line, command, last, made, lines=None, query=None, after_refusal=False):
+    def __init__(self, exchange, line, command, last, made, lines=None, query=None, after_refusal=False):
         self.command = command
         self.rows = deque()
         self.answered = False  # the program has given the whole reply, be it a refusal
         self.settled = False  # it is answered, or never will be
         self._error = None
-        self._index = index
-        self._line = line
+        self._exchange = exchange
+        self.line = line
         self._last = last
         self._made = made
         self._lines = lines
@@ -117,15 +117,15 @@ class Reply:
     @property
     def error(self) -> Optional[Error]:
         """The refusal, or what came in place of a reply. Whoever looks at it has been told."""
-        self._index._untaken.pop(self, None)
+        self._exchange.untaken.pop(self, None)
         return self._error
 
     def result(self) -> Any:
         """Waits for the reply and gives its value, or raises its refusal, or the end of the program that came before it."""
         while not self.settled:
-            self._index._turn()
+            self._exchange.turn()
         if not self.answered:
-            self._index._told = True
+            self._exchange.told = True
         if self.error is not None:
             raise copy.copy(self.error)
         return self._value
@@ -146,7 +146,7 @@ class Reply:
     def begin(self) -> None:
         """Waits for the first line of the reply, and raises as `result` where there is no more to come."""
         while not (self._begun or self.settled):
-            self._index._turn()
+            self._exchange.turn()
         if self.settled:
             self.result()
 
@@ -157,10 +157,10 @@ class Reply:
                 yield self.rows.popleft()
             if self.settled:
                 break
-            self._index._turn()
+            self._exchange.turn()
         self.result()
 
-    def _take(self, line):
+    def take(self, line):
         """Takes the next line of the reply, and tells whether it was the last."""
         first = not self._begun
         self._begun = True
@@ -179,13 +179,13 @@ class Reply:
         self.rows.append(self._lines.made(row))
         return False
 
-    def _settle(self, error=None):
+    def settle(self, error=None):
         """Marks it as answered, or as one that never will be for this reason."""
         self.answered = error is None
         self._error = self._error or error
         self.settled = True
         if self.answered and self._error is not None:
-            self._index._keep_refusal(self)
+            self._exchange.keep_refusal(self)
 
 
 # Of the reply to each command the last line, and the lines before it.

@@ -1,0 +1,236 @@
+"""The calls of an index, each of which sends a line of the program and takes its reply."""
+
+from __future__ import annotations
+
+from collections import deque
+from typing import Iterable, Iterator, List, Tuple, Union
+
+from .cursors import Cursor
+from .errors import BadName, Error, NotUtf8, Refused, UnknownCommand
+from .exchange import Exchange
+from .lines import LINE_LIMIT, add_line, too_long
+from .replies import (
+    ADDED,
+    CURSOR,
+    DELETED,
+    DUMP_END,
+    DUMPED,
+    FORMS,
+    FOUND,
+    OK,
+    ROWS,
+    SCORED,
+    STATS,
+    TEXTS,
+    Added,
+    Dumped,
+    Reply,
+    Row,
+    Skipped,
+    Stats,
+    Top,
+    first_number,
+    nothing,
+    query_in,
+    whole_line,
+)
+from .texts import name_ok, one_line, whole
+
+Document = Tuple[str, str, str]  # name, title and body
+
+
+class Commands:
+    """The calls that documents, queries and upkeep have, over an exchange of lines."""
+
+    _exchange: Exchange
+
+    # -- Documents.
+
+    def add(self, name: str, title: str, body: str, cut: bool = False) -> Added:
+        """Stores a document and answers its number, an `Added`: it is stored when this returns.
+
+        It takes the place of the document of its name, where there is one, in one step: a stop leaves the one or the other.
+        `replaced` is that one's number, or None. Tabs, newlines and carriage returns in title and body become spaces. Raises
+        `BadName`, `NoNumbersLeft`, and `LineTooLong` where the line is too long; with `cut` it is cut at a word's end, and
+        `dropped` says how much.
+        """
+        return self.send_add(name, title, body, cut).result()
+
+    def delete(self, name: str) -> int:
+        """Deletes the document of this name and answers its number. Raises `BadName` and `NoSuchDocument`."""
+        return self.send_delete(name).result()
+
+    def send_add(self, name: str, title: str, body: str, cut: bool = False) -> Reply:
+        """Sends what `add` sends, and answers its `Reply` at once, or when one of those under way has come."""
+        line, dropped = add_line(name, title, body, cut)
+        line = line[:-1]
+
+        def made(last):
+            number = Added(last[1] or last[3])
+            number.replaced = last[2] and int(last[2])
+            number.dropped = dropped
+            return number
+
+        return self._exchange.send(line, f"add {name}", ADDED, made)
+
+    def send_delete(self, name: str) -> Reply:
+        """Sends what `delete` sends, and answers its `Reply` at once, or when one of those under way has come."""
+        if not name_ok(name):
+            raise BadName("! bad name", ascii(name[:80]))
+        return self._exchange.send(f"delete {name}".encode(), f"delete {name}", DELETED, first_number)
+
+    def add_all(self, documents: Iterable[Document], cut: bool = False) -> Iterator[Tuple[str, Union[Added, Refused]]]:
+        """Adds documents, each a (name, title, body), with many under way, and gives for each in order (name, outcome).
+
+        The outcome is the `Added` number or the `Refused`. Where the program ends, its `Ended` is raised behind the outcome
+        of the last document that was answered, and no further document is taken. Nothing is sent before the first outcome is
+        asked for: `add_many` is for who wants none of them.
+        """
+        sent = deque()
+        for name, title, body in documents:
+            try:
+                sent.append((name, self.send_add(name, title, body, cut)))
+            except Refused as refusal:
+                sent.append((name, refusal))
+            except Error:
+                break
+            while sent and _is_settled(sent[0][1]):
+                name, outcome = sent.popleft()
+                yield name, _outcome(outcome)
+        for name, outcome in sent:
+            yield name, _outcome(outcome)
+        if self._exchange.end is not None:
+            self._exchange.check()
+
+    def add_many(self, documents: Iterable[Document], cut: bool = False) -> Tuple[int, List[Tuple[str, Refused]]]:
+        """Adds documents, each a (name, title, body), and answers how many, and a (name, `Refused`) for each that was not."""
+        added, refusals = 0, []
+        for name, outcome in self.add_all(documents, cut):
+            if isinstance(outcome, Refused):
+                refusals.append((name, outcome))
+            else:
+                added += 1
+        return added, refusals
+
+    # -- Queries.
+
+    def search(self, query: str) -> Iterator[Row]:
+        """The live documents that match, as an iterator of (number, name) in order of number. Raises `QueryFault`."""
+        reply = self._ask("search", query, FOUND, first_number, ROWS)
+        reply.begin()
+        return reply.each()
+
+    def top(self, query: str, count: int) -> Top:
+        """The `Top` answers by falling score, and of one score by rising number: at most `count` of them, 1 to 1,000.
+
+        Raises `QueryFault`, `BadLine` for another `count`, and `UnknownCommand` where the program is an older one.
+        """
+        reply = self._ask(f"top {whole(count, 'count')}", query, FOUND, first_number, SCORED)
+        found = reply.result()
+        return Top(list(reply.rows), found)
+
+    def count(self, query: str) -> int:
+        """How many live documents match. Raises `QueryFault`."""
+        return self._ask("count", query, FOUND, first_number).result()
+
+    def explain(self, query: str) -> str:
+        """The query's canonical spelling and, in the lines behind it, its plan. Raises `QueryFault`."""
+        # The reply's end shows only by the next reply's begin.
+        reply = self._ask("explain", query, STATS, nothing, TEXTS, behind=b"stats\n", after_refusal=True)
+        reply.result()
+        return "\n".join(reply.rows)
+
+    def cursor(self, query: str) -> Cursor:
+        """A `Cursor` over the documents that match now. Raises `QueryFault` and `TooManyCursors`."""
+        return Cursor(self._exchange, self._ask("open", query, CURSOR, first_number).result())
+
+    def stats(self) -> Stats:
+        """The `Stats` of the index."""
+        return self._say("stats", STATS, lambda last: Stats(int(last[1]), int(last[2]), int(last[3])))
+
+    def dump(self) -> Iterator[Union[Dumped, Skipped]]:
+        """The words of all live documents in order of number, as an iterator: a `Dumped` each, or a `Skipped` where they give no line."""
+        reply = self._exchange.send(b"dump", "dump", DUMP_END, first_number, DUMPED)
+        reply.begin()
+        return reply.each()
+
+    # -- Upkeep.
+
+    def flush(self) -> None:
+        """Writes the journal's documents as a level, and empties the journal."""
+        self._say("flush", OK, nothing)
+
+    def merge(self) -> None:
+        """Joins all levels and the journal into one level, without the deleted documents."""
+        self._say("merge", OK, nothing)
+
+    def step(self, terms: int) -> None:
+        """Moves the joining of the two oldest levels on by so many terms, 1 to 1,000,000."""
+        self._say(f"step {whole(terms, 'terms')}", OK, nothing)
+
+    # -- Any line.
+
+    def answer(self, line: bytes) -> List[str]:
+        """The lines that the program answers to a command line, given in bytes without a newline; a refusal is one of them.
+
+        For who has lines from elsewhere, as a server. A line that this client cannot tell the end of a reply to is refused.
+        """
+        return list(self.each_answer(line))
+
+    def each_answer(self, line: bytes) -> Iterator[str]:
+        """The lines that `answer` gives, as they come."""
+        try:
+            reply = self.send_line(line)
+        except Refused as refusal:
+            yield refusal.reply
+        else:
+            yield from reply.each_line()
+
+    def send_line(self, line: bytes) -> Reply:
+        """Sends what `answer` sends, and answers its `Reply` at once, or when one of those under way has come.
+
+        Raises the `Refused` of a line that is not sent.
+        """
+        word = line.partition(b" ")[0]
+        if len(line) > LINE_LIMIT:
+            raise too_long(len(line), "a line")
+        if word not in FORMS:
+            raise UnknownCommand("! unknown command") if _is_utf8(line) else NotUtf8("! not UTF-8")
+        last, lines = FORMS[word]
+        explains = word == b"explain"
+        query = query_in(line, word)
+        return self._exchange.send(line, word.decode(), last, whole_line, lines, query, b"stats\n" if explains else b"", explains)
+
+    # -- Lines.
+
+    def _ask(self, word, query, last, made, lines=None, behind=b"", after_refusal=False):
+        query = one_line(query, "a query")
+        line = f"{word} {query}".encode()
+        if len(line) > LINE_LIMIT:
+            raise too_long(len(line), word)
+        return self._exchange.send(line, word, last, made, lines, query, behind, after_refusal)
+
+    def _say(self, line, last, made):
+        return self._exchange.send(line.encode(), line, last, made).result()
+
+
+def _is_utf8(line):
+    try:
+        line.decode()
+    except UnicodeDecodeError:
+        return False
+    return True
+
+
+def _is_settled(outcome):
+    return not isinstance(outcome, Reply) or outcome.settled
+
+
+def _outcome(outcome):
+    """The number or the refusal of a document that was sent or refused."""
+    if not isinstance(outcome, Reply):
+        return outcome
+    try:
+        return outcome.result()
+    except Refused as refusal:
+        return refusal

@@ -1,0 +1,50 @@
+"""A cursor: the answers of a query as they were when it was opened."""
+
+from __future__ import annotations
+
+from typing import Any, Iterator
+
+from .replies import CLOSED, PAGE_END, ROWS, Page, Row, nothing
+from .texts import whole
+
+
+class Cursor:
+    """The answers of a query as they were when it was opened, page by page, whatever is added and deleted meanwhile.
+
+    At most 64 are open at once; `close` gives one back, and so does the end of a `with`.
+    """
+
+    def __init__(self, exchange, number):
+        self.number = number
+        self._exchange = exchange
+
+    def __enter__(self) -> Cursor:
+        return self
+
+    def __exit__(self, kind: Any, value: Any, trace: Any) -> None:
+        if self._exchange.end is None:
+            self.close()
+
+    def page(self, count: int) -> Page:
+        """The next `Page`, of at most so many rows, 1 to 1,000,000. Raises `NoSuchCursor` where it was closed."""
+        line = f"fetch {self.number} {whole(count, 'count')}"
+        reply = self._exchange.send(line.encode(), line, PAGE_END, lambda last: last[0] == "more", ROWS)
+        more = reply.result()
+        return Page(list(reply.rows), more)
+
+    def pages(self, count: int) -> Iterator[Page]:
+        """The pages up to the end, none of them empty."""
+        more = True
+        while more:
+            page = self.page(count)
+            more = page.more
+            if page.rows:
+                yield page
+
+    def __iter__(self) -> Iterator[Row]:
+        for page in self.pages(1000):
+            yield from page.rows
+
+    def close(self) -> None:
+        """Gives the cursor back."""
+        self._exchange.send(f"close {self.number}".encode(), f"close {self.number}", CLOSED, nothing).result()

@@ -1,0 +1,210 @@
+"""The lines that go to the program of an index, and the replies that come back."""
+
+from __future__ import annotations
+
+import copy
+import os
+import select
+import signal
+import threading
+import warnings
+import weakref
+from collections import deque
+
+from .errors import BadLine, Closed, Ended, Error, ProtocolFault, end_of
+from .links import let_go
+from .replies import Reply
+
+LINES_UNDER_WAY = 64  # lines without a reply, at most
+BYTES_WAITING = 262_144  # bytes of lines that wait to be written, before one more is sent
+REFUSALS_KEPT = 1_000  # refused replies that nobody has taken yet, before the oldest is warned of
+
+
+class Exchange:
+    """The lines to the program or the server behind a link, and their replies, up to its end; the path is that of the index.
+
+    What is dropped before its end lets the program end.
+    """
+
+    def __init__(self, path, link):
+        self.path = path
+        self.link = link
+        self.end = None  # how the program has ended
+        self.told = False  # that end was raised, or was asked for
+        self.opened = False  # the program has answered
+        self.fresh = deque()  # replies to lines that no turn has looked at yet
+        self.pending = deque()  # replies to the lines before them
+        self.out = bytearray()
+        self.front = bytearray()  # the front of a line whose end has not come
+        self.untaken = {}  # refused replies that nobody has taken, the oldest first
+        self.alone = threading.Lock()
+        self.let_go = weakref.finalize(self, let_go, link, path, os.getpid())
+
+    def under_way(self):
+        """How many lines were sent that have no reply yet: 64 at most."""
+        return len(self.fresh) + len(self.pending)
+
+    def settle(self):
+        """Waits until every line that was sent is answered, or will not be."""
+        while self.under_way():
+            self.turn()
+
+    def send(self, line, command, last, made, lines=None, query=None, behind=b"", after_refusal=False):
+        """Sends a line, and a line of this client `behind` it, where the reply's end shows only by that one's."""
+        if b"\n" in line:
+            raise BadLine("! bad line", f"a newline in the line of {ascii(command[:80])}")
+        self.check()
+        reply = Reply(self, line + b"\n" + behind, command, last, made, lines, query, after_refusal)
+        while self.under_way() >= LINES_UNDER_WAY or len(self.out) > BYTES_WAITING:
+            self.turn()
+            self.check()
+        # One step, so that an interrupt leaves no line without its reply and no reply without its line.
+        self.turn(0, reply)
+        return reply
+
+    def check(self):
+        """Raises the end of the program where it has ended."""
+        if self.end is not None:
+            self.told = True
+            raise copy.copy(self.end)
+
+    def keep_refusal(self, reply):
+        self.untaken[reply] = None
+        if len(self.untaken) > REFUSALS_KEPT:
+            oldest = next(iter(self.untaken))
+            warnings.warn(f"{self.path}: {oldest.error} (nobody took this reply)", RuntimeWarning, stacklevel=2)
+
+    def close(self):
+        """Waits until every line is answered, and ends the program.
+
+        Raises its `Ended` where nothing raised it yet, or the first `Refused` of a line that was sent and whose reply nobody
+        has taken.
+        """
+        self.settle()
+        if self.end is None:
+            self.link.close_input()
+        while self.end is None:
+            self.turn()
+        untaken = list(self.untaken)
+        self.untaken.clear()
+        if not self.told and not isinstance(self.end, Closed):
+            self.check()
+        if untaken:
+            error = copy.copy(untaken[0].error)
+            error.args = (f"{error} (nobody took the replies to {len(untaken):,} refused lines: this is the first)",)
+            raise error
+
+    def kill(self):
+        """Ends the program at once. Of the lines without a reply the first one may be done, and no other."""
+        self.told = True
+        if self.end is None:
+            self.link.kill()
+        while self.end is None:
+            self.turn()
+
+    def break_off(self):
+        """Ends the program from a signal handler: the calls that wait for it then go on as where it was killed."""
+        self.link.kill()
+
+    def turn(self, seconds=None, reply=None):
+        """Waits until the program takes or gives something, or so many seconds, and moves all that can be moved.
+
+        The one place that reads and writes, so that neither side waits for the other: before it waits, it takes the line of
+        this `reply`. A call that is interrupted in here may have lost a piece of a reply: nothing is read any more then, and
+        the program is ended.
+        """
+        if not self.alone.acquire(blocking=False):
+            raise RuntimeError(f"{self.path}: another thread, or what a signal has interrupted, waits for the program")
+        try:
+            if reply is not None:
+                self.fresh.append(reply)
+            if self.end is None:
+                self._move(seconds)
+            else:
+                self._give_up()
+        except BaseException as error:
+            self.link.kill()
+            self._finish(error if isinstance(error, Error) else self._broken_off())
+            if not isinstance(error, Error):
+                raise
+        finally:
+            self.alone.release()
+
+    def _move(self, seconds):
+        while self.fresh:
+            reply = self.fresh.popleft()
+            self.pending.append(reply)
+            self.out += reply.line
+            reply.line = None
+        link = self.link
+        wanted = {link.output: select.POLLIN}
+        if link.said is not None and link.said.open:
+            wanted[link.said.file] = select.POLLIN
+        if self.out and link.input is not None:
+            wanted[link.input] = wanted.get(link.input, 0) | select.POLLOUT
+        poll = select.poll()
+        for file, events in wanted.items():
+            poll.register(file, events)
+        for file, events in poll.poll(None if seconds is None else seconds * 1000):
+            # A socket is both input and output.
+            if file == link.input and (events & select.POLLOUT or file != link.output):
+                self._write(file)
+            if file == link.output and events & ~select.POLLOUT:
+                self._read(file)
+            elif link.said is not None and file == link.said.file:
+                link.said.take()
+            if self.end is not None:
+                break
+
+    def _write(self, file):
+        try:
+            del self.out[: os.write(file, self.out)]
+        except BlockingIOError:
+            pass
+        except (BrokenPipeError, ConnectionResetError):
+            # The other side has ended or takes no more; what it gave is still to be read.
+            self.out.clear()
+            self.link.give_up_input()
+
+    def _read(self, file):
+        try:
+            data = os.read(file, 1 << 16)
+        except ConnectionResetError:
+            data = b""
+        if not data:
+            self._finish(None)
+            return
+        *lines, rest = data.split(b"\n")
+        if lines:
+            lines[0] = bytes(self.front) + lines[0]
+            self.front.clear()
+        self.front += rest
+        for line in lines:
+            text = line.decode(errors="replace")
+            if self.link.takes(text):
+                continue
+            if not self.pending:
+                raise ProtocolFault("no line", text)
+            if self.pending[0].take(text):
+                self.pending.popleft().settle()
+
+    def _finish(self, error):
+        """Takes the end of the program, once its output has ended or it was killed. What is under way gets no reply."""
+        self.let_go.detach()
+        status, line = self.link.ended()
+        if error is None:
+            asked = status == 0 and not self.under_way()
+            error = Closed("the index was closed") if asked else end_of(status, line, self.path, self.opened)
+        self.end = error
+        self._give_up()
+        self.out.clear()
+        self.front.clear()
+
+    def _broken_off(self):
+        return Ended(-signal.SIGKILL, "ended after an interrupt", self.path)
+
+    def _give_up(self):
+        """Settles what is under way: behind the end it gets no reply."""
+        for replies in (self.pending, self.fresh):
+            while replies:
+                replies.popleft().settle(self.end)
