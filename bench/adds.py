@@ -3,7 +3,7 @@
 
 usage: bench/adds.py [--program PATH] [--before PATH] [--lines FILE] [--count N] [--folder FOLDER]
 
-FILE has `add` lines, as `examples/packages.py - /var/lib/dpkg/status` writes them; without one, lines of about 400 bytes are made. Both the
+FILE has `add` lines, as `bunco packages - /var/lib/dpkg/status` writes them; without one, lines of about 400 bytes are made. Both the
 program and the loop write to files in FOLDER (a new one in the current folder by default, so that both are on the same
 file system): a record behind its gate, a data sync, the gate, a data sync.
 

@@ -4,7 +4,7 @@
 usage: bench/bulk.py [--program PATH] [--lines FILE | --texts FOLDER] [--count N] [--parts N,N,..] [--folder FOLDER] [--fast]
                      [--merge-full | --merge-each BYTES [--merge-share SHARE]]
 
-FILE has `add` lines, as `examples/packages.py` writes them. Without one, the text files below FOLDER (/usr/share/doc), packed ones
+FILE has `add` lines, as `bunco packages` writes them. Without one, the text files below FOLDER (/usr/share/doc), packed ones
 too, are cut at empty lines into documents of 400 bytes or more, in the order of their paths. The first N of the documents
 (60,000) are added, and so are a half and a fourth of them (--parts gives other parts), each into a new index in FOLDER (a new one in
 the current folder by default), by:
@@ -35,9 +35,10 @@ import time
 from typing import NamedTuple
 
 TOP = os.path.dirname(os.path.dirname(os.path.abspath(__file__)))
-sys.path[:0] = [os.path.join(TOP, "tests"), os.path.join(TOP, "examples")]
+sys.path[:0] = [os.path.join(TOP, "tests"), os.path.join(TOP, "client")]
 
-from importing import LEVELS, Levels
+from buncocedar.fileformat import LEVELS
+from buncocedar.imports.engine import Levels
 from reading import HEAD, read_roots
 
 LEAST = 400  # bytes of a document that is cut from a file

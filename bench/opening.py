@@ -3,7 +3,7 @@
 
 usage: bench/opening.py [--program PATH] [--before PATH] [--count N] [--word WORD] [--turns N] [--merge] --lines FILE
 
-FILE has `add` lines, as `examples/packages.py - /var/lib/dpkg/status` writes them. The first N go into a new index of the
+FILE has `add` lines, as `bunco packages - /var/lib/dpkg/status` writes them. The first N go into a new index of the
 program, with `flush` (or `merge`) behind them, and into a new FTS5 table on disk that keeps no texts and is optimized. Sizes are those of
 the files, the program's without its slots and journal, so that gaps between levels count. A time is the processor time of one
 process: that which opens the index and counts the word, less that of a process that opens nothing. The least of all turns

@@ -3,7 +3,7 @@
 
 usage: bench/searches.py [--program PATH] [--before PATH ..] --lines FILE [--count N] [--repeat N] [--turns N] [--merged] [--levels] [--gaps N] [--top K]
 
-FILE has `add` lines, as `examples/packages.py - /var/lib/dpkg/status` writes them. As many of its first N documents as fit in one journal half go
+FILE has `add` lines, as `bunco packages - /var/lib/dpkg/status` writes them. As many of its first N documents as fit in one journal half go
 into a new index of the program and into a new FTS5 table in memory of Python's sqlite3, whose words are cut by its `unicode61`. With
 --merged all N go in, and a `merge` behind them makes them one level; then the FTS5 table stands on disk, keeps no texts and is
 optimized; with --gaps every Nth is deleted before that merge, and never was in the table. With --levels the program is also asked over an

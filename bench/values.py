@@ -3,7 +3,7 @@
 
 usage: bench/values.py [--program PATH] [--before PATH] --lines FILE [--count N] [--repeat N]
 
-FILE has `add` lines, as `examples/packages.py - /var/lib/dpkg/status` or `examples/mail.py` write them. The first N documents go into a
+FILE has `add` lines, as `bunco packages - /var/lib/dpkg/status` or `bunco mail` write them. The first N documents go into a
 new index of the program, with a `merge` behind them; with --before also into one of a program that has no values, by turns, three
 times each. Prints of both the processor time of an add and the bytes of the level; of the program's level the part of the terms
 of ranges, in its table of terms and in its lists; and how many numbers the documents have.

@@ -1,7 +1,6 @@
 """Makes the wheel of this client, as PEP 517 and the wheel format 1.0 say, with the standard library alone.
 
-The package is the folder `buncocedar` with the scripts of `examples/` in it, and each script that can be run is a command,
-`bunco-find` for `find.py`.
+The package is the folder `buncocedar`; its commands are those of the table [project.scripts].
 """
 
 import base64
@@ -11,43 +10,34 @@ import re
 import zipfile
 
 HERE = os.path.dirname(os.path.abspath(__file__))
-EXAMPLES = os.path.join(os.path.dirname(HERE), "examples")
+PACKAGE = "buncocedar"
+ENDS = (".py", ".typed")
 
 
 class UnsupportedOperation(Exception):
     """What this backend does not make."""
 
 
-def settings():
-    """The texts of the table [project]."""
+def table(name):
+    """The texts of a table of pyproject.toml."""
     with open(os.path.join(HERE, "pyproject.toml"), encoding="utf-8") as file:
-        table = file.read().partition("[project]\n")[2]
-    return dict(re.findall(r'^([a-z-]+) = "(.*)"$', table, re.MULTILINE))
+        lines = file.read().partition(f"\n[{name}]\n")[2].partition("\n[")[0]
+    return dict(re.findall(r'^([a-z-]+) = "(.*)"$', lines, re.MULTILINE))
 
 
 def sources():
     """The files of the wheel, as (name in it, path)."""
-    for folder, inside, ends in [
-        (os.path.join(HERE, "buncocedar"), "buncocedar", (".py", ".typed")),
-        (EXAMPLES, "buncocedar/examples", (".py",)),
-    ]:
-        for name in sorted(os.listdir(folder)):
-            if name.endswith(ends):
-                yield f"{inside}/{name}", os.path.join(folder, name)
-
-
-def commands(files):
-    """A command for each script that can be run, and one for the server."""
-    yield "bunco-server = buncocedar.server:main"
-    for name, data in files.items():
-        stem = os.path.basename(name)[:-3]
-        if name.startswith("buncocedar/examples/") and b'__name__ == "__main__"' in data:
-            yield f"bunco-{stem} = buncocedar.scripts:{stem}"
+    for folder, folders, names in os.walk(os.path.join(HERE, PACKAGE)):
+        folders.sort()
+        for name in sorted(names):
+            if name.endswith(ENDS):
+                path = os.path.join(folder, name)
+                yield os.path.relpath(path, HERE).replace(os.sep, "/"), path
 
 
 def contents():
     """The files of the wheel, by name, and the name of its folder of metadata."""
-    project = settings()
+    project = table("project")
     files = {}
     for name, path in sources():
         with open(path, "rb") as file:
@@ -57,7 +47,7 @@ def contents():
         "METADATA": f"Metadata-Version: 2.1\nName: {project['name']}\nVersion: {project['version']}\n"
         f"Summary: {project['description']}\nRequires-Python: {project['requires-python']}\n",
         "WHEEL": "Wheel-Version: 1.0\nGenerator: wheel_backend\nRoot-Is-Purelib: true\nTag: py3-none-any\n",
-        "entry_points.txt": "[console_scripts]\n" + "".join(f"{command}\n" for command in commands(files)),
+        "entry_points.txt": "[console_scripts]\n" + "".join(f"{name} = {call}\n" for name, call in table("project.scripts").items()),
     }
     files.update((f"{about}/{name}", text.encode()) for name, text in metadata.items())
     return files, about
@@ -84,4 +74,4 @@ def build_wheel(wheel_directory, config_settings=None, metadata_directory=None):
 
 
 def build_sdist(sdist_directory, config_settings=None):
-    raise UnsupportedOperation("the scripts stand outside of this folder: install from a checkout")
+    raise UnsupportedOperation("no archive of sources is made: install from a checkout")

@@ -915,9 +915,9 @@ class Waiting(Case):
 
     def test_scripts_tell_it(self):
         with self.fake():
-            for script, words in [("find.py", ["x"]), ("folder.py", [self.folder.name]), ("shell.py", [])]:
+            for script, words in [("find", ["x"]), ("folder", [self.folder.name]), ("shell", [])]:
                 done = subprocess.run(
-                    [sys.executable, os.path.join(TOP, "examples", script), self.path, *words, "--wait", "0.8"],
+                    [sys.executable, os.path.join(TOP, "bunco"), script, self.path, *words, "--wait", "0.8"],
                     env={**os.environ, "BUNCOCEDAR_PROGRAM": FAKE},
                     stdin=subprocess.DEVNULL,
                     capture_output=True,

@@ -1,5 +1,5 @@
 #!/usr/bin/env python3
-"""Tests of the importing scripts and of `find.py` in examples/: bad input, second runs, and every kind of stop.
+"""Tests of the commands that import, and of `bunco find`: bad input, second runs, and every kind of stop.
 
 usage: tests/imports.py [--program PATH]
 
@@ -36,19 +36,16 @@ FAKE = fake.installed()
 PROGRAM = None
 PATIENCE = 300
 
-sys.path.insert(0, os.path.join(TOP, "examples"))
+sys.path.insert(0, os.path.join(TOP, "client"))
 
-import find  # noqa: E402
-import folder  # noqa: E402
-import importing  # noqa: E402
-import mail  # noqa: E402
-import matching  # noqa: E402
-import packages  # noqa: E402
-import prompt  # noqa: E402
-import stamps  # noqa: E402
-import terminal  # noqa: E402
-from buncocedar import LINE_LIMIT  # noqa: E402
-from stamps import name_of  # noqa: E402
+from buncocedar import LINE_LIMIT, Index, terminal  # noqa: E402
+from buncocedar.document import Document, NoText, Text, Unseen  # noqa: E402
+from buncocedar.imports import bringing, engine, folder, mail, packages, stamps  # noqa: E402
+from buncocedar.imports.interrupts import Interrupts  # noqa: E402
+from buncocedar.imports.log import Log  # noqa: E402
+from buncocedar.imports.parts import OVERLAP, parts_of, spaced  # noqa: E402
+from buncocedar.imports.stamps import name_of  # noqa: E402
+from buncocedar.tools import find, matching, prompt  # noqa: E402
 
 
 def until(done):
@@ -114,11 +111,11 @@ class Case(unittest.TestCase):
             return file.read()
 
     def start(self, script, *words, do=None, **options):
-        """A script of examples/ over the fake program, which does this."""
+        """A command of `bunco` over the fake program, which does this."""
         environment = {**os.environ, "BUNCOCEDAR_PROGRAM": self.program, "FAKE": json.dumps(do or {})}
         options = {"stdin": subprocess.DEVNULL, "stdout": subprocess.PIPE, "stderr": subprocess.PIPE, **options}
         # Without what is installed beside Python, which the scripts do without.
-        command = [sys.executable, "-S", os.path.join(TOP, "examples", script), *words]
+        command = [sys.executable, "-S", os.path.join(TOP, "bunco"), script, *words]
         return subprocess.Popen(command, env=environment, text=True, errors="replace", **options)
 
     def run_script(self, script, *words, do=None, expect=0, **options):
@@ -162,7 +159,7 @@ class Case(unittest.TestCase):
         while stamps.part_name(name, number + 1) in bodies:
             number += 1
             following = bodies[stamps.part_name(name, number)]
-            shared = " ".join(body[-5_000:].split(" ")[-importing.OVERLAP :])
+            shared = " ".join(body[-5_000:].split(" ")[-OVERLAP :])
             self.assertTrue(following.startswith(shared + " "), number)
             body += following[len(shared) :]
         return body, number
@@ -198,7 +195,7 @@ class Folders(Case):
         os.mkfifo(self.at("notes/pipe"))
         os.symlink("nowhere", self.at("notes/broken"))
         index = self.at("notes/x.alta")
-        said = self.run_script("folder.py", index, self.at("notes"), expect=1)
+        said = self.run_script("folder", index, self.at("notes"), expect=1)
         self.assertIn("18 documents: 11 added, 3 passed over, 4 refused\n", said)
         for line in (
             "refused no-text: no UTF-8, first at byte 3",
@@ -223,62 +220,62 @@ class Folders(Case):
         self.assertEqual(set("".join(body for name, body in bodies.items() if name.startswith("huge"))), {"\u65e5"})
         self.assertFalse([name for name in bodies if "git" in name or "other" in name])
         # Nothing is done a second time, and the index is no document of itself.
-        said = self.run_script("folder.py", "--verbose", index, self.at("notes"), expect=1)
+        said = self.run_script("folder", "--verbose", index, self.at("notes"), expect=1)
         self.assertIn("0 added, 11 unchanged, 3 passed over, 4 refused", said)
         for line in ("passed over 'nul': binary", "passed over 'pipe': no regular file", "passed over 'broken': a link to nothing"):
             self.assertIn(line, said)
         # What is too long is refused on demand, Latin-1 is read, and what is not wanted is left out.
         self.path = self.at("y.alta")
         words = ("--whole", "--latin-1", "--skip", "no*", "--skip", "*.gz", self.path, self.at("notes"))
-        said = self.run_script("folder.py", *words, expect=1)
+        said = self.run_script("folder", *words, expect=1)
         self.assertRegex(said, rf"refused big: its line has [\d,]+ bytes where {LINE_LIMIT:,} may be")
         self.assertEqual(self.bodies()["latin"], "stra\u00dfe")
         self.assertNotIn("no-text", self.bodies())
         self.path = self.at("z.alta")
-        self.assertIn("2 documents: 2 added", self.run_script("folder.py", "--only", "*s.txt", self.path, self.at("notes")))
+        self.assertIn("2 documents: 2 added", self.run_script("folder", "--only", "*s.txt", self.path, self.at("notes")))
 
     def test_second_runs(self):
         notes = self.notes(20)
-        self.assertIn("20 documents: 20 added", self.run_script("folder.py", self.path, notes))
-        self.assertIn("0 added, 20 unchanged", self.run_script("folder.py", self.path, notes))
+        self.assertIn("20 documents: 20 added", self.run_script("folder", self.path, notes))
+        self.assertIn("0 added, 20 unchanged", self.run_script("folder", self.path, notes))
         self.write("notes/007.txt", "another text")
         self.write("notes/new.txt", "new")
-        self.assertIn("21 documents: 1 added, 1 changed, 19 unchanged", self.run_script("folder.py", self.path, notes))
+        self.assertIn("21 documents: 1 added, 1 changed, 19 unchanged", self.run_script("folder", self.path, notes))
         self.assertEqual(self.stored()["007.txt"], (22 - 1, "007.txt", "another text"))
         # What the index has lost is said, and brought in again.
         content = self.read(self.path)
         self.write("x.alta", b"".join(content.splitlines(True)[:-2]))
-        said = self.run_script("folder.py", self.path, notes)
+        said = self.run_script("folder", self.path, notes)
         self.assertIn("the index has lost the documents 21 to 22 since the last run", said)
         self.assertIn("1 added, 1 added again, 19 unchanged", said)
         self.assertEqual(len(self.stored()), 21)
         # Without its stamps everything is added again, once.
         os.remove(self.path + ".stamps")
-        self.assertIn("0 added, 21 added again", self.run_script("folder.py", self.path, notes))
+        self.assertIn("0 added, 21 added again", self.run_script("folder", self.path, notes))
         self.assertEqual(len(self.stored()), 21)
         # A new index does not believe the stamps of the one before.
         os.remove(self.path)
-        self.assertIn("21 documents: 21 added", self.run_script("folder.py", self.path, notes))
-        self.assertIn("0 added, 21 unchanged", self.run_script("folder.py", self.path, notes))
+        self.assertIn("21 documents: 21 added", self.run_script("folder", self.path, notes))
+        self.assertIn("0 added, 21 unchanged", self.run_script("folder", self.path, notes))
 
     def test_torn_stamps(self):
         notes = self.notes(5)
-        self.run_script("folder.py", self.path, notes)
+        self.run_script("folder", self.path, notes)
         with open(self.path + ".stamps", "r+b") as file:
             file.seek(-20, os.SEEK_END)
             file.truncate()
-        self.assertIn("1 added again, 4 unchanged", self.run_script("folder.py", self.path, notes))
+        self.assertIn("1 added again, 4 unchanged", self.run_script("folder", self.path, notes))
         with open(self.path + ".stamps", "ab") as file:
             file.write(b"\0\xff broken\n000.txt 1 nothing\n" + b"gone 7 " + b"0" * 32 + b" 00000000\n")
             file.write(b"\n" * 5000)
-        self.assertIn("0 added, 5 unchanged", self.run_script("folder.py", self.path, notes))
+        self.assertIn("0 added, 5 unchanged", self.run_script("folder", self.path, notes))
         self.assertLess(os.path.getsize(self.path + ".stamps"), 1000)
-        self.assertIn("0 added, 5 unchanged", self.run_script("folder.py", self.path, notes))
+        self.assertIn("0 added, 5 unchanged", self.run_script("folder", self.path, notes))
 
     def test_stamps_that_cannot_be_written(self):
         notes = self.notes(200)
 
-        class OnFullDisk(importing.Stamps):
+        class OnFullDisk(bringing.Stamps):
             def __init__(self, *words):
                 super().__init__(*words)
                 os.dup2(os.open("/dev/full", os.O_WRONLY), self.file)
@@ -288,16 +285,16 @@ class Folders(Case):
 
         told = io.StringIO()
         variables = {"BUNCOCEDAR_PROGRAM": FAKE}
-        with mock.patch.object(importing, "Stamps", OnFullDisk), mock.patch.dict(os.environ, variables):
+        with mock.patch.object(bringing, "Stamps", OnFullDisk), mock.patch.dict(os.environ, variables):
             with contextlib.redirect_stderr(told):
                 source = stamps.Source("folder", notes)
-                self.assertEqual(importing.bring("folder", self.path, source, folder.files(notes)), 3)
+                self.assertEqual(bringing.bring("folder", self.path, source, folder.files(notes)), 3)
         self.assertIn("stopped: the stamps could not be written", told.getvalue())
         added = int(re.search(r"(\d+) added", told.getvalue())[1])
         self.assertGreater(added, 0)
         self.assertLess(added, 200)
         self.assertEqual(len(self.stored()), added)
-        said = self.run_script("folder.py", self.path, notes)
+        said = self.run_script("folder", self.path, notes)
         self.assertIn(f"{200 - added} added, {added} added again", said)
         self.assertEqual(len(self.stored()), 200)
 
@@ -305,40 +302,40 @@ class Folders(Case):
         self.write("one/a.txt", "one")
         self.write("two/a.txt", "other")
         for _ in range(2):
-            self.run_script("folder.py", self.path, self.at("one"))
-            self.run_script("folder.py", self.path, self.at("two"))
+            self.run_script("folder", self.path, self.at("one"))
+            self.run_script("folder", self.path, self.at("two"))
         self.assertEqual(self.bodies(), {"a.txt": "one", "a.txt~2": "other"})
         # A folder that was moved is still the same documents, also when they change later.
         shutil.move(self.at("one"), self.at("three"))
-        self.assertIn("0 added, 1 unchanged", self.run_script("folder.py", self.path, self.at("three")))
+        self.assertIn("0 added, 1 unchanged", self.run_script("folder", self.path, self.at("three")))
         self.write("three/a.txt", "changed")
-        self.assertIn("0 added, 1 changed", self.run_script("folder.py", self.path, self.at("three")))
+        self.assertIn("0 added, 1 changed", self.run_script("folder", self.path, self.at("three")))
         self.assertEqual(self.bodies(), {"a.txt": "changed", "a.txt~2": "other"})
 
     def test_full(self):
         notes = self.notes(300)
-        said = self.run_script("folder.py", self.path, notes, do={"room": 120}, expect=3)
+        said = self.run_script("folder", self.path, notes, do={"room": 120}, expect=3)
         self.assertIn("300 documents: 120 added\n", said)
         self.assertIn("alta: full, need 321, greatest gap 123 (status 8)", said)
         self.assertIn("180 documents not stored, the first of them 120.txt\n", said)
         self.assertIn("the rest needs an index of its own", said)
         self.assertEqual(len(self.stored()), 120)
-        said = self.run_script("folder.py", self.path, notes, do={"room": 120}, expect=3)
+        said = self.run_script("folder", self.path, notes, do={"room": 120}, expect=3)
         self.assertIn("300 documents: 0 added, 120 unchanged\n", said)
         self.assertIn("180 documents not stored, the first of them 120.txt\n", said)
-        said = self.run_script("folder.py", self.path, notes, do={"room": 200}, expect=3)
+        said = self.run_script("folder", self.path, notes, do={"room": 200}, expect=3)
         self.assertIn("300 documents: 80 added, 120 unchanged\n", said)
-        self.assertIn("300 documents: 100 added, 200 unchanged\n", self.run_script("folder.py", self.path, notes))
+        self.assertIn("300 documents: 100 added, 200 unchanged\n", self.run_script("folder", self.path, notes))
         self.assertEqual(self.bodies(), {f"{i:03}.txt": f"text {i}" for i in range(300)})
 
     def test_full_at_a_changed_document(self):
         notes = self.notes(3)
-        self.run_script("folder.py", self.path, notes)
+        self.run_script("folder", self.path, notes)
         self.write("notes/001.txt", "a new text")
-        said = self.run_script("folder.py", self.path, notes, do={"room": 3}, expect=3)
+        said = self.run_script("folder", self.path, notes, do={"room": 3}, expect=3)
         self.assertIn("1 document not stored, the first of them 001.txt\n", said)
         self.assertEqual(self.bodies()["001.txt"], "text 1")
-        self.assertIn("0 added, 1 changed, 2 unchanged", self.run_script("folder.py", self.path, notes))
+        self.assertIn("0 added, 1 changed, 2 unchanged", self.run_script("folder", self.path, notes))
         self.assertEqual(self.bodies()["001.txt"], "a new text")
 
     def test_a_program_that_is_killed(self):
@@ -347,27 +344,27 @@ class Folders(Case):
         for done in (False, True):
             for path in (self.path, self.path + ".stamps"):
                 os.path.exists(path) and os.remove(path)
-            said = self.run_script("folder.py", self.path, notes, do={"end": [102, -9], "done": done}, expect=3)
+            said = self.run_script("folder", self.path, notes, do={"end": [102, -9], "done": done}, expect=3)
             self.assertIn("300 documents: 100 added\n", said)
             self.assertIn("ended by signal 9", said)
             self.assertIn("200 documents not stored, the first of them 100.txt (which may be stored", said)
             self.assertEqual(len(self.stored()), 101 if done else 100)
-            said = self.run_script("folder.py", self.path, notes)
+            said = self.run_script("folder", self.path, notes)
             self.assertIn("199 added, 1 added again, 100 unchanged" if done else "200 added, 100 unchanged", said)
             self.assertEqual(self.bodies(), {f"{i:03}.txt": f"text {i}" for i in range(300)})
 
     def test_a_stop_at_a_changed_document(self):
         notes = self.notes(3)
-        self.run_script("folder.py", self.path, notes)
+        self.run_script("folder", self.path, notes)
         self.write("notes/001.txt", "a new text")
         for done in (False, True):
             with self.subTest(done=done):
                 before = {path: self.read(path) for path in (self.path, self.path + ".stamps")}
-                said = self.run_script("folder.py", self.path, notes, do={"end": [3, -9], "done": done}, expect=3)
+                said = self.run_script("folder", self.path, notes, do={"end": [3, -9], "done": done}, expect=3)
                 self.assertIn("1 document not stored, the first of them 001.txt (which may be stored", said)
                 self.assertEqual(self.bodies()["001.txt"], "a new text" if done else "text 1")
                 self.assertEqual(len(self.stored()), 3)
-                self.run_script("folder.py", self.path, notes)
+                self.run_script("folder", self.path, notes)
                 self.assertEqual(self.bodies(), {"000.txt": "text 0", "001.txt": "a new text", "002.txt": "text 2"})
                 for path, content in before.items():
                     self.write(path, content)
@@ -375,19 +372,19 @@ class Folders(Case):
     def test_a_stop_at_a_document_in_parts(self):
         # Two parts in place of three: the first two are replaced, and then the third is deleted.
         self.write("notes/long", "old " * (LINE_LIMIT * 5 // 8))
-        self.run_script("folder.py", self.path, self.at("notes"))
+        self.run_script("folder", self.path, self.at("notes"))
         self.assertEqual(sorted(self.stored()), ["long", "long~p2", "long~p3"])
         self.write("notes/long", "new " * (LINE_LIMIT * 3 // 8))
         for end, done in itertools.product((3, 4, 5), (False, True)):
             with self.subTest(end=end, done=done):
                 before = {path: self.read(path) for path in (self.path, self.path + ".stamps")}
-                said = self.run_script("folder.py", self.path, self.at("notes"), do={"end": [end, -9], "done": done}, expect=3)
+                said = self.run_script("folder", self.path, self.at("notes"), do={"end": [end, -9], "done": done}, expect=3)
                 self.assertIn("1 document not stored, the first of them long (which may be stored", said)
                 self.assertEqual("long: some of its parts are stored, and the others are as they were" in said, end == 4)
                 bodies = self.bodies()
                 words = [bodies[name][:3] for name in sorted(bodies)]
                 self.assertEqual(words, {3: ["old"] * 3, 4: ["new", "old", "old"], 5: ["new", "new", "old"], 6: ["new"] * 2}[end + done])
-                self.run_script("folder.py", self.path, self.at("notes"))
+                self.run_script("folder", self.path, self.at("notes"))
                 bodies = self.bodies()
                 self.assertEqual(sorted(bodies), ["long", "long~p2"])
                 self.assertEqual({body[:3] for body in bodies.values()}, {"new"})
@@ -396,21 +393,21 @@ class Folders(Case):
 
     def test_an_import_that_is_killed(self):
         notes = self.notes(300)
-        process = self.start("folder.py", self.path, notes, do={"silent": 150, "mark": self.mark})
+        process = self.start("folder", self.path, notes, do={"silent": 150, "mark": self.mark})
         until(lambda: os.path.exists(self.mark))
         process.kill()
         process.communicate()
         os.kill(int(self.read(self.mark)), signal.SIGKILL)
         stored = len(self.stored())
         self.assertEqual(stored, 148)
-        said = self.run_script("folder.py", self.path, notes)
+        said = self.run_script("folder", self.path, notes)
         counts = re.search(r"300 documents: 152 added, (?:(\d+) added again, )?(\d+) unchanged", said)
         self.assertEqual(int(counts[1] or 0) + int(counts[2]), stored)
         self.assertEqual(self.bodies(), {f"{i:03}.txt": f"text {i}" for i in range(300)})
 
     def test_interrupts(self):
         # The first one ends the import cleanly, behind the replies under way.
-        process = self.start("packages.py", self.path, do={}, stdin=subprocess.PIPE)
+        process = self.start("packages", self.path, do={}, stdin=subprocess.PIPE)
         stanza = "Package: p{}\nDescription: about {}\n text\n\n"
         fed = 0
         while not os.path.exists(self.path + ".stamps") or not os.path.getsize(self.path + ".stamps"):
@@ -439,7 +436,7 @@ class Folders(Case):
         self.assertNotIn("not stored", said)
 
     def test_an_interrupt_while_the_source_is_quiet(self):
-        process = self.start("packages.py", self.path, stdin=subprocess.PIPE)
+        process = self.start("packages", self.path, stdin=subprocess.PIPE)
         process.stdin.write("Package: a\nDescription: a\n\nPackage: b\nDescription: b\n\n")
         process.stdin.flush()
         until(lambda: os.path.exists(self.path) and b"add b" in self.read(self.path))
@@ -449,53 +446,53 @@ class Folders(Case):
         self.assertIn("2 documents: 2 added\n", said)
         self.assertIn("interrupted: run this again", said)
         stanzas = self.write("status", "Package: a\nDescription: a\n\nPackage: b\nDescription: b\n")
-        self.assertIn("0 added, 2 unchanged", self.run_script("packages.py", self.path, stanzas))
+        self.assertIn("0 added, 2 unchanged", self.run_script("packages", self.path, stanzas))
 
     def test_what_is_gone(self):
         notes = self.notes(4)
         self.write("notes/long", "word " * (LINE_LIMIT // 2))
         self.write("others/003.txt", "another")
-        self.run_script("folder.py", self.path, notes)
-        self.run_script("folder.py", self.path, self.at("others"))
+        self.run_script("folder", self.path, notes)
+        self.run_script("folder", self.path, self.at("others"))
         for name in ("001.txt", "long"):
             os.remove(self.at(f"notes/{name}"))
-        said = self.run_script("folder.py", self.path, notes)
+        said = self.run_script("folder", self.path, notes)
         self.assertIn("2 documents of earlier runs not seen any more, and still in the index; --prune deletes such", said)
         self.assertIn("long~p2", self.stored())
-        said = self.run_script("folder.py", "--prune", self.path, notes)
+        said = self.run_script("folder", "--prune", self.path, notes)
         self.assertIn("3 documents: 0 added, 3 unchanged\n", said)
         self.assertIn("2 documents of earlier runs not seen any more, and deleted\n", said)
         self.assertEqual(sorted(self.stored()), ["000.txt", "002.txt", "003.txt", "003.txt~2"])
-        self.assertNotIn("not seen", self.run_script("folder.py", "--prune", self.path, notes))
+        self.assertNotIn("not seen", self.run_script("folder", "--prune", self.path, notes))
         self.assertFalse({"001.txt", "long"} & set(stamps.Records(self.path + ".stamps").of))
         # What comes again is new.
         self.write("notes/001.txt", "text 1")
-        self.assertIn("1 added, 3 unchanged", self.run_script("folder.py", "--prune", self.path, notes))
+        self.assertIn("1 added, 3 unchanged", self.run_script("folder", "--prune", self.path, notes))
         # A source that gives nothing, or whose end was not reached, says nothing of what is gone.
         shutil.rmtree(notes)
         os.mkdir(notes)
-        self.assertIn("nothing was pruned", self.run_script("folder.py", "--prune", self.path, notes))
+        self.assertIn("nothing was pruned", self.run_script("folder", "--prune", self.path, notes))
         self.write("notes/000.txt", "text 0")
-        said = self.run_script("folder.py", "--prune", self.path, notes, do={"end": [3, -9]}, expect=3)
+        said = self.run_script("folder", "--prune", self.path, notes, do={"end": [3, -9]}, expect=3)
         self.assertNotIn("not seen", said)
         self.assertEqual(len(self.stored()), 5)
 
     def test_what_cannot_be_seen_is_not_gone(self):
         source = stamps.Source("folder", self.place.name)
-        text = importing.Text("", "text")
-        options = importing.Options(prune=True)
-        seen = importing.Document("a", b"1", lambda: text)
-        unseen = folder.no_document("sub", importing.Unseen("Permission denied"))
+        text = Text("", "text")
+        options = engine.Options(prune=True)
+        seen = Document("a", b"1", lambda: text)
+        unseen = folder.no_document("sub", Unseen("Permission denied"))
         told = io.StringIO()
         with mock.patch.dict(os.environ, {"BUNCOCEDAR_PROGRAM": FAKE}), contextlib.redirect_stderr(told):
-            importing.bring("folder", self.path, source, [seen, importing.Document("sub/b", b"1", lambda: text)])
-            self.assertEqual(importing.bring("folder", self.path, source, [seen, unseen], options), 1)
+            bringing.bring("folder", self.path, source, [seen, Document("sub/b", b"1", lambda: text)])
+            self.assertEqual(bringing.bring("folder", self.path, source, [seen, unseen], options), 1)
         self.assertIn("refused sub: Permission denied", told.getvalue())
         self.assertIn("nothing was pruned", told.getvalue())
         self.assertEqual(set(self.stored()), {"a", "sub/b"})
 
     def test_merges(self):
-        class Merging(importing.Index):
+        class Merging(Index):
             merges = []
 
             def merge(self):
@@ -504,17 +501,17 @@ class Folders(Case):
 
         # Five documents fill the journal, and there are three levels at most: the first merge comes where the journal behind three has one.
         notes = self.notes(30)
-        half = 5 * (len("add 000.txt\t000.txt\ttext 00") + importing.RECORD)
-        few_levels = lambda: mock.patch.multiple(importing, HALF=half, LEVELS=3)
+        half = 5 * (len("add 000.txt\t000.txt\ttext 00") + engine.RECORD)
+        few_levels = lambda: mock.patch.multiple(engine, HALF=half, LEVELS=3)
         source = stamps.Source("folder", notes)
         for merge, merges in ((True, [16, 27]), (False, [])):
             Merging.merges.clear()
             if os.path.exists(self.path):
                 os.remove(self.path)
-            with few_levels(), mock.patch.object(importing, "Index", Merging):
+            with few_levels(), mock.patch.object(bringing, "Index", Merging):
                 with mock.patch.dict(os.environ, {"BUNCOCEDAR_PROGRAM": FAKE}), contextlib.redirect_stderr(io.StringIO()):
-                    options = importing.Options(merge=merge)
-                    self.assertEqual(importing.bring("folder", self.path, source, folder.files(notes), options), 0)
+                    options = engine.Options(merge=merge)
+                    self.assertEqual(bringing.bring("folder", self.path, source, folder.files(notes), options), 0)
             self.assertEqual([number for number in Merging.merges], merges)
         # A program without levels, and one that ends in a merge.
         for do, status, stored in (({"old": True}, 0, 30), ({"end": [19, -9]}, 3, 16)):
@@ -523,13 +520,13 @@ class Folders(Case):
             with contextlib.redirect_stderr(told):
                 with few_levels():
                     with mock.patch.dict(os.environ, {"BUNCOCEDAR_PROGRAM": FAKE, "FAKE": json.dumps(do)}):
-                        self.assertEqual(importing.bring("folder", self.path, source, folder.files(notes)), status, told.getvalue())
+                        self.assertEqual(bringing.bring("folder", self.path, source, folder.files(notes)), status, told.getvalue())
             self.assertEqual(len(self.stored()), stored)
 
     def test_a_second_interrupt(self):
         # A program that answers no more is ended, and the counts are those of what it answered.
         notes = self.notes(300)
-        process = self.start("folder.py", self.path, notes, do={"silent": 150, "mark": self.mark})
+        process = self.start("folder", self.path, notes, do={"silent": 150, "mark": self.mark})
         until(lambda: os.path.exists(self.mark))
         process.send_signal(signal.SIGINT)
         said = ""
@@ -542,45 +539,45 @@ class Folders(Case):
         self.assertEqual(process.returncode, 130, said)
         self.assertRegex(said, r"\d+ documents: 148 added\n")
         self.assertRegex(said, r"documents? not stored, the first of them 148.txt \(which may be")
-        self.assertIn("152 added, 148 unchanged", self.run_script("folder.py", self.path, notes))
+        self.assertIn("152 added, 148 unchanged", self.run_script("folder", self.path, notes))
 
     def test_refusals_of_the_program(self):
         notes = self.notes(5)
-        said = self.run_script("folder.py", self.path, notes, do={"say": [4, "! no numbers left"]}, expect=1)
+        said = self.run_script("folder", self.path, notes, do={"say": [4, "! no numbers left"]}, expect=1)
         self.assertIn("refused 002.txt: ! no numbers left", said)
         self.assertIn("5 documents: 4 added, 1 refused", said)
-        self.assertIn("1 added, 4 unchanged", self.run_script("folder.py", self.path, notes))
-        said = self.run_script("folder.py", self.at("y.alta"), notes, do={"say": [4, "what is this"]}, expect=3)
+        self.assertIn("1 added, 4 unchanged", self.run_script("folder", self.path, notes))
+        said = self.run_script("folder", self.at("y.alta"), notes, do={"say": [4, "what is this"]}, expect=3)
         self.assertIn("5 documents: 2 added\n", said)
         self.assertIn("3 documents not stored, the first of them 002.txt", said)
 
     def test_use(self):
-        self.assertIn("is no folder", self.run_script("folder.py", self.path, self.at("none"), expect=2))
-        self.assertIn("there is none", self.run_script("mail.py", self.path, self.at("none"), expect=2))
-        self.run_script("folder.py", self.path, expect=2)
+        self.assertIn("is no folder", self.run_script("folder", self.path, self.at("none"), expect=2))
+        self.assertIn("there is none", self.run_script("mail", self.path, self.at("none"), expect=2))
+        self.run_script("folder", self.path, expect=2)
         # The words in the wrong order write over nothing.
         self.write("my.mbox", b"From a\n\nmail\n")
-        self.assertIn("no index", self.run_script("folder.py", self.at("my.mbox"), self.place.name, expect=3))
+        self.assertIn("no index", self.run_script("folder", self.at("my.mbox"), self.place.name, expect=3))
         self.assertEqual(self.read(self.at("my.mbox")), b"From a\n\nmail\n")
         self.assertFalse(os.path.exists(self.at("my.mbox.stamps")))
 
     def test_lines(self):
         notes = self.notes(3)
         self.write("notes/bad", b"\xff")
-        said = self.run_script("folder.py", "-", notes, expect=1)
+        said = self.run_script("folder", "-", notes, expect=1)
         self.assertEqual(self.out.split("\n")[:2], ["add 000.txt\t000.txt\ttext 0", "add 001.txt\t001.txt\ttext 1"])
         self.assertIn("3 documents written, 0 in parts, 0 passed over, 1 refused", said)
 
     def test_lines_that_cannot_be_written(self):
         notes = self.notes(3)
         with open("/dev/full", "w") as full:
-            said = self.run_script("folder.py", "-", notes, stdout=full, expect=3)
+            said = self.run_script("folder", "-", notes, stdout=full, expect=3)
         self.assertEqual(said, "folder: standard output could not be written: No space left on device\n")
 
     def test_progress(self):
         notes = self.notes(50)
         ours, theirs = pty.openpty()
-        process = self.start("folder.py", self.path, notes, stderr=theirs)
+        process = self.start("folder", self.path, notes, stderr=theirs)
         os.close(theirs)
         said = read_all(ours)
         process.communicate(timeout=PATIENCE)
@@ -599,11 +596,11 @@ class Sources(Case):
 
     def documents(self, *documents, source="box", kind="mail", prune=False):
         """Brings in documents, each a name, a stamp and perhaps a place; the stamp is the text."""
-        found = [importing.Document(name, stamp.encode(), lambda stamp=stamp: importing.Text("", stamp), *place) for name, stamp, *place in documents]
+        found = [Document(name, stamp.encode(), lambda stamp=stamp: Text("", stamp), *place) for name, stamp, *place in documents]
         told = io.StringIO()
         with mock.patch.dict(os.environ, {"BUNCOCEDAR_PROGRAM": FAKE}), contextlib.redirect_stderr(told):
-            options = importing.Options(prune=prune)
-            self.assertEqual(importing.bring(kind, self.path, stamps.Source(kind, self.at(source)), found, options), 0, told.getvalue())
+            options = engine.Options(prune=prune)
+            self.assertEqual(bringing.bring(kind, self.path, stamps.Source(kind, self.at(source)), found, options), 0, told.getvalue())
         return told.getvalue()
 
     def test_files_of_one_size_and_time(self):
@@ -697,15 +694,15 @@ class Sources(Case):
             return stamps.numbered(name, number)
 
         many = [("x", str(number)) for number in range(300)]
-        with mock.patch.object(importing, "numbered", counted):
+        with mock.patch.object(engine, "numbered", counted), mock.patch.object(bringing, "numbered", counted):
             self.assertIn("300 added", self.documents(*many))
             self.assertIn("0 added, 300 unchanged", self.documents(*many))
             self.assertIn("1 added, 300 unchanged", self.documents(*many, ("x", "new")))
             self.assertLess(len(calls), 1_500)
             calls.clear()
             with mock.patch.object(sys, "stdout", io.TextIOWrapper(io.BytesIO())):
-                found = [importing.Document(*name, lambda: importing.Text("", "")) for name in many]
-                self.assertEqual(importing.write_lines(importing.Log("mail", io.StringIO()), found, False), 0)
+                found = [Document(*name, lambda: Text("", "")) for name in many]
+                self.assertEqual(bringing.write_lines(Log("mail", io.StringIO()), found, False), 0)
             self.assertLess(len(calls), 700)
 
     def test_a_folder_that_has_moved(self):
@@ -751,10 +748,10 @@ class Sources(Case):
     def test_messages_made_anew_in_two_archives(self):
         self.documents(("x", "before x"), ("y", "before y"), source="one")
         self.documents(("x", "before x"), source="two")
-        former = [importing.Document(name, f"now {name}".encode(), lambda name=name: importing.Text("", name), former=f"before {name}".encode()) for name in "xy"]
+        former = [Document(name, f"now {name}".encode(), lambda name=name: Text("", name), former=f"before {name}".encode()) for name in "xy"]
         for source, found in (("one", former), ("two", former[:1]), ("one", former)):
             with mock.patch.dict(os.environ, {"BUNCOCEDAR_PROGRAM": FAKE}), contextlib.redirect_stderr(io.StringIO()):
-                importing.bring("mail", self.path, stamps.Source("mail", self.at(source)), found)
+                bringing.bring("mail", self.path, stamps.Source("mail", self.at(source)), found)
             self.assertEqual(sorted(self.bodies()), ["x", "y"], source)
 
     def test_a_line_torn_in_its_place(self):
@@ -809,7 +806,7 @@ class Sources(Case):
             self.write(name, "".join(f"Package: {each}\nDescription: {each}\n\n" for each in stanzas))
         self.main(packages, self.path, self.at("one"))
         with open(self.at("pipe")) as file:
-            self.run_script("packages.py", self.path, stdin=file)
+            self.run_script("packages", self.path, stdin=file)
         self.assertNotIn("deleted", self.main(packages, "--prune", self.path, self.at("two")))
         self.assertEqual(sorted(self.bodies()), ["a", "b", "c", "d", "e"])
         self.write("two", "Package: b\nDescription: b\n\n")
@@ -851,12 +848,12 @@ class Sources(Case):
         self.note("notes/a", "of a file")
         self.documents()
         with mock.patch.dict(os.environ, {"BUNCOCEDAR_PROGRAM": FAKE}):
-            server = subprocess.Popen([sys.executable, os.path.join(TOP, "client", "server.py"), self.path], stderr=subprocess.PIPE)
+            server = subprocess.Popen([sys.executable, os.path.join(TOP, "bunco"), "serve", self.path], stderr=subprocess.PIPE)
         self.addCleanup(server.wait)
         self.addCleanup(server.kill)
         self.addCleanup(server.stderr.close)
         until(lambda: os.path.exists(self.path + ".socket"))
-        slow = self.start("packages.py", self.path, stdin=subprocess.PIPE)
+        slow = self.start("packages", self.path, stdin=subprocess.PIPE)
         slow.stdin.write("Package: b\nDescription: b\n\n")
         slow.stdin.flush()
         until(lambda: b"add b" in self.read(self.path))
@@ -867,7 +864,7 @@ class Sources(Case):
         self.assertEqual(self.bodies(), {"a": "", "b": "", "a~2": "of a file"})
 
     def test_an_interrupt_while_it_prunes(self):
-        class Interrupting(importing.Index):
+        class Interrupting(Index):
             def send_delete(self, name):
                 if name == "2":
                     os.kill(os.getpid(), signal.SIGINT)
@@ -878,7 +875,7 @@ class Sources(Case):
         self.folder("notes")
         for number in range(5):
             os.remove(self.at(f"notes/{number}"))
-        with mock.patch.object(importing, "Index", Interrupting), mock.patch.dict(importing.Interrupts.notes, clear=True):
+        with mock.patch.object(bringing, "Index", Interrupting), mock.patch.dict(Interrupts.notes, clear=True):
             said = self.folder("--prune", "notes", expect=130)
         self.assertIn("3 documents of earlier runs not seen any more, and deleted", said)
         self.assertIn("2 documents of earlier runs not seen any more, and still in the index", said)
@@ -908,10 +905,10 @@ class Sources(Case):
         self.write("zeros", bytes(1 << 20))
         self.write("zeros.gz", gzip.compress(bytes(1 << 20)))
         with mock.patch.object(folder, "open", Counted, create=True):
-            self.assertRaises(importing.NoText, folder.text_of, self.at("zeros"))
+            self.assertRaises(NoText, folder.text_of, self.at("zeros"))
         unpack = gzip.GzipFile.read
         with mock.patch.object(gzip.GzipFile, "read", lambda file, size=-1: taken.append(size) or unpack(file, size)):
-            self.assertRaises(importing.NoText, folder.text_of, self.at("zeros.gz"))
+            self.assertRaises(NoText, folder.text_of, self.at("zeros.gz"))
         self.assertEqual(taken, [folder.BINARY_LOOK] * 2)
         # A text is read as far as it is looked at, and it is told how much is left.
         with mock.patch.object(folder, "TEXT_LIMIT", 10_000), mock.patch.object(folder, "CHUNK", 999):
@@ -922,28 +919,28 @@ class Sources(Case):
 
     def test_lines_of_a_source_that_cannot_be_read(self):
         def documents():
-            yield importing.Document("a", b"", lambda: importing.Text("", ""))
+            yield Document("a", b"", lambda: Text("", ""))
             raise PermissionError(13, "Permission denied", "mail.mbox")
 
         for fault, status, said in ((None, 3, "stopped: [Errno 13] Permission denied: 'mail.mbox'"), (KeyboardInterrupt, 130, "broken off")):
             told = io.StringIO()
             with contextlib.redirect_stderr(told), mock.patch.object(sys, "stdout", io.TextIOWrapper(io.BytesIO())):
-                with mock.patch.object(importing, "parts_of", side_effect=fault, return_value=[]):
-                    self.assertEqual(importing.bring("mail", "-", None, documents()), status)
+                with mock.patch.object(bringing, "parts_of", side_effect=fault, return_value=[]):
+                    self.assertEqual(bringing.bring("mail", "-", None, documents()), status)
             self.assertEqual(told.getvalue(), f"mail: {said}\n")
 
     def test_an_index_that_cannot_be_put_in_its_place(self):
         # The fake's index is none that could be copied.
         self.note("notes/a", "text")
         os.mkdir(self.at("memory"))
-        with mock.patch.object(importing, "MEMORY", self.at("memory")):
+        with mock.patch.object(bringing, "MEMORY", self.at("memory")):
             for index in (self.at("none/x.alta"), self.at("notes/a/x.alta")):
-                with mock.patch.object(importing, "bring_into") as bring:
+                with mock.patch.object(bringing, "bring_into") as bring:
                     self.main(folder, "--fast", index, self.at("notes"), expect=3)
                 bring.assert_not_called()
             said = self.folder("--fast", "notes", expect=3)
         (kept,) = glob.glob(self.at("memory/*/index.alta"))
-        self.assertIn(f"the index was made, and stands in {kept}: examples/compact.py copies it\n", said)
+        self.assertIn(f"the index was made, and stands in {kept}: bunco compact copies it\n", said)
         self.assertFalse(os.path.exists(self.path))
         self.path = kept
         self.assertIn("0 added, 1 unchanged", self.folder("notes"))
@@ -1027,7 +1024,7 @@ class Mail(Case):
             found = self.message(head, body)
             crlf = self.message(head.replace(b"\n", b"\r\n"), body)
             self.assertEqual((crlf.title, crlf.body), (found.title, found.body), head)
-            self.assertEqual((found.title, importing.spaced(found.body)), (title, text), head)
+            self.assertEqual((found.title, spaced(found.body)), (title, text), head)
 
     def test_no_message_takes_long(self):
         many = 1 << 20
@@ -1141,7 +1138,7 @@ class Mail(Case):
             ]
         )
         path = self.write("mail.mbox", archive)
-        said = self.run_script("mail.py", self.path, path, expect=1)
+        said = self.run_script("mail", self.path, path, expect=1)
         self.assertIn("11 documents: 9 added, 1 repeated, 1 refused\n", said)
         self.assertIn("it has no header", said)
         self.assertIn(f"1 document in parts, since a line has {LINE_LIMIT:,} bytes", said)
@@ -1157,11 +1154,11 @@ class Mail(Case):
     def test_what_a_mail_reader_notes_is_no_change(self):
         archive = LETTER % (b"one", b"one", b"one") + b"\n" + LETTER % (b"two", b"two", b"two")
         path = self.write("mail.mbox", archive)
-        self.assertIn("2 added", self.run_script("mail.py", self.path, path))
+        self.assertIn("2 added", self.run_script("mail", self.path, path))
         self.write("mail.mbox", archive.replace(b"Message-ID: <two@x>\n", b"Status: RO\nMessage-ID: <two@x>\nX-Status: F\n"))
-        self.assertIn("0 added, 2 unchanged", self.run_script("mail.py", self.path, path))
+        self.assertIn("0 added, 2 unchanged", self.run_script("mail", self.path, path))
         self.write("mail.mbox", archive.replace(b"text of two", b"text of too"))
-        self.assertIn("0 added, 1 changed, 1 unchanged", self.run_script("mail.py", self.path, path))
+        self.assertIn("0 added, 1 changed, 1 unchanged", self.run_script("mail", self.path, path))
         for noted in (b"X-IMAPbase: 1 7", b"X-IMAP: 1 7", b"X-UIDL: a", b"x-gmail-labels : Inbox", b"X-Evolution: 0a-00", b"X-Label: b"):
             for raw in (b"Subject: x\n\ny", b"Message-ID: <a>\nSubject: x\n\ny"):
                 message, marked = mail.Message(raw), mail.Message(noted + b"\n" + raw)
@@ -1169,23 +1166,23 @@ class Mail(Case):
         # Nor is an empty line at the end, before a message that has come.
         with open(path, "ab") as file:
             file.write(b"\n" + LETTER % (b"new", b"new", b"new"))
-        self.assertIn("1 added, 2 unchanged", self.run_script("mail.py", self.path, path))
+        self.assertIn("1 added, 2 unchanged", self.run_script("mail", self.path, path))
 
     def test_maildir(self):
         box = mailbox.Maildir(self.at("Mail"), create=True)
         keys = [box.add(b"Message-ID: <%d@x>\nSubject: s\n\ntext %d\n" % (number, number)) for number in range(5)]
         box.add_folder("sent").add(b"Message-ID: <sent@x>\n\nsent\n")
-        self.assertIn("6 documents: 6 added", self.run_script("mail.py", self.path, self.at("Mail")))
+        self.assertIn("6 documents: 6 added", self.run_script("mail", self.path, self.at("Mail")))
         # Read, and so moved and renamed.
         message = box[keys[2]]
         message.set_subdir("cur")
         message.set_flags("S")
         box[keys[2]] = message
-        self.assertIn("0 added, 6 unchanged", self.run_script("mail.py", self.path, self.at("Mail")))
+        self.assertIn("0 added, 6 unchanged", self.run_script("mail", self.path, self.at("Mail")))
         self.assertEqual(self.bodies()["sent@x"], "sent")
         # One message alone.
         path = self.write("one.eml", b"Message-ID: <eml@x>\nSubject: s\n\nFrom now on text\n")
-        self.assertIn("1 added", self.run_script("mail.py", self.path, path))
+        self.assertIn("1 added", self.run_script("mail", self.path, path))
         self.assertEqual(self.bodies()["eml@x"], "From now on text")
 
     def test_what_moves_in_a_maildir_meanwhile(self):
@@ -1224,17 +1221,17 @@ class Mail(Case):
         self.write("elsewhere/cur/3", message % 3)
         os.symlink("nowhere", self.at("Mail/cur/4:2,S"))
         os.symlink(self.at("elsewhere"), self.at("Mail/.linked"))
-        said = self.run_script("mail.py", "--prune", "--verbose", self.path, self.at("Mail"), expect=1)
+        said = self.run_script("mail", "--prune", "--verbose", self.path, self.at("Mail"), expect=1)
         self.assertIn("4 documents: 2 added, 1 passed over, 1 refused\n", said)
         self.assertIn("refused cur/4:2,S: No such file or directory\n", said)
         self.assertIn("passed over '.linked': a link to a folder\n", said)
         self.assertIn("nothing was pruned", said)
         # The folder of messages itself, with the slash that a shell puts behind it.
-        self.assertIn("1 added", self.run_script("mail.py", self.at("y.alta"), self.at("Mail/new/")))
+        self.assertIn("1 added", self.run_script("mail", self.at("y.alta"), self.at("Mail/new/")))
         # A folder that is no Maildir is no empty one.
         self.write("boxes/inbox", LETTER % (b"one", b"one", b"one"))
         for words in ((), ("--prune",)):
-            said = self.run_script("mail.py", *words, self.at("z.alta"), self.at("boxes"), expect=1)
+            said = self.run_script("mail", *words, self.at("z.alta"), self.at("boxes"), expect=1)
             self.assertIn("refused .: no Maildir: it has no folder cur or new\n", said)
 
 
@@ -1245,12 +1242,12 @@ class Packages(Case):
             b"Package: a\nDescription: first\n more\n .\n text\nBroken\n\n\n\nPackage: b\nDescription-en: caf\xc3\xa9 \xff\n\n"
             b" stray\nPackage: c\n\nPackage: a\nDescription: other\n\nPackage: a\nDescription: first\n more\n .\n text\n",
         )
-        self.assertIn("4 documents: 3 added, 1 repeated", self.run_script("packages.py", self.path, path))
+        self.assertIn("4 documents: 3 added, 1 repeated", self.run_script("packages", self.path, path))
         self.assertEqual(
             self.stored(), {"a": (1, "first", "more text"), "b": (2, "caf\u00e9 \ufffd", ""), "a~2": (3, "other", "")}
         )
         with open(path) as file:
-            self.assertIn("0 added, 3 unchanged, 1 repeated", self.run_script("packages.py", self.path, stdin=file))
+            self.assertIn("0 added, 3 unchanged, 1 repeated", self.run_script("packages", self.path, stdin=file))
 
 
 class Find(Case):
@@ -1282,29 +1279,29 @@ class Find(Case):
     def test_answers(self):
         self.write("notes/a b.txt", "nothing here\n the  quick red fox, " + "and more " * 40 + "\n")
         self.write("notes/c.txt", "quick\nand red\n")
-        self.run_script("folder.py", self.path, self.at("notes"))
-        self.run_script("find.py", self.path, "quick red")
+        self.run_script("folder", self.path, self.at("notes"))
+        self.run_script("find", self.path, "quick red")
         name = name_of("a b.txt")
         self.assertEqual(self.out, f"2 c.txt\n1 {name}\nfound 2\n")
-        self.run_script("find.py", self.path, "quick red", "--oldest")
+        self.run_script("find", self.path, "quick red", "--oldest")
         self.assertEqual(self.out, f"1 {name}\n2 c.txt\nfound 2\n")
-        self.run_script("find.py", "--context", self.path, "quick", "--oldest")
+        self.run_script("find", "--context", self.path, "quick", "--oldest")
         lines = self.out.split("\n")
         self.assertRegex(lines[1], r"^    .*/notes/a b.txt:2: the quick red fox, and .*\.\.\.$")
         self.assertRegex(lines[3], r"^    .*/notes/c.txt:1: quick$")
-        self.run_script("find.py", "--around", "1", self.path, "quick", "--limit", "1")
+        self.run_script("find", "--around", "1", self.path, "quick", "--limit", "1")
         self.assertRegex(self.out, r"^2 c.txt\n    .*/c.txt:1: quick\n    .*/c.txt-2- and red\n\.\.\. and 1 more\nfound 2\n$")
         for words in (("--limit", "1"), ("--last", "1")):
-            self.run_script("find.py", self.path, "quick", *words)
+            self.run_script("find", self.path, "quick", *words)
             self.assertEqual(self.out, "2 c.txt\n... and 1 more\nfound 2\n")
-        self.run_script("find.py", self.path, "quick", "--limit", "1", "--oldest")
+        self.run_script("find", self.path, "quick", "--limit", "1", "--oldest")
         self.assertEqual(self.out, f"1 {name}\n... and 1 more\nfound 2\n")
-        self.run_script("find.py", self.path, "zebra", expect=1)
+        self.run_script("find", self.path, "zebra", expect=1)
         self.assertEqual(self.out, "found 0\n")
-        said = self.run_script("find.py", self.path, "fault 8 Paren \u65e5)", expect=2)
+        said = self.run_script("find", self.path, "fault 8 Paren \u65e5)", expect=2)
         self.assertEqual(said.split("\n")[1:3], ["  fault 8 Paren \u65e5)", "          ^"])
-        self.assertIn("no index", self.run_script("find.py", self.at("none"), "x", expect=3))
-        self.assertIn("--limit", self.run_script("find.py", self.path, "x", "--limit", "-3", expect=2))
+        self.assertIn("no index", self.run_script("find", self.at("none"), "x", expect=3))
+        self.assertIn("--limit", self.run_script("find", self.path, "x", "--limit", "-3", expect=2))
 
     def test_the_best_first(self):
         self.write("notes/fox.txt", "quick\n")
@@ -1312,22 +1309,22 @@ class Find(Case):
         self.write("notes/b.txt", "quick\n")
         # The second part of this one has more of it than the first.
         self.write("notes/long", "quick " + "word " * (LINE_LIMIT // 5) + "quick " * 9)
-        self.run_script("folder.py", self.path, self.at("notes"))
+        self.run_script("folder", self.path, self.at("notes"))
         for words, shown in [
             (("--top", "9"), "5 long 9\n1 a.txt 2\n2 b.txt 1\n3 fox.txt 1\nfound 4\n"),
             (("--top", "2"), "5 long 9\n1 a.txt 2\n... and 2 more\nfound 4\n"),
             (("--top", "2", "--names"), "long\na.txt\n"),
             (("--newest", "--limit", "1"), "4 long\n... and 3 more\nfound 4\n"),
         ]:
-            self.run_script("find.py", self.path, "quick", *words)
+            self.run_script("find", self.path, "quick", *words)
             self.assertEqual(self.out, shown)
-        self.run_script("find.py", self.path, "quick", "--top", "2", "--json")
+        self.run_script("find", self.path, "quick", "--top", "2", "--json")
         self.assertEqual([json.loads(line)["score"] for line in self.out.splitlines()], [9, 2])
-        self.run_script("find.py", self.path, "zebra", "--top", "2", expect=1)
+        self.run_script("find", self.path, "zebra", "--top", "2", expect=1)
         for words in (("--top", "0"), ("--top", "1001"), ("--top", "1", "--limit", "1"), ("--top", "1", "--oldest")):
-            self.run_script("find.py", self.path, "quick", *words, expect=2)
-        self.assertIn("! query 8 Paren", self.run_script("find.py", self.path, "fault 8 Paren", "--top", "1", expect=2))
-        self.assertIn("older than", self.run_script("find.py", self.path, "quick", "--top", "1", do={"old": True}, expect=2))
+            self.run_script("find", self.path, "quick", *words, expect=2)
+        self.assertIn("! query 8 Paren", self.run_script("find", self.path, "fault 8 Paren", "--top", "1", expect=2))
+        self.assertIn("older than", self.run_script("find", self.path, "quick", "--top", "1", do={"old": True}, expect=2))
         # At a prompt this is what comes, if nothing else is said, and the program can.
         for words, do, row in [((), {}, "a.txt 2\r\n"), (("--newest",), {}, "a.txt\r\n"), ((), {"old": True}, "a.txt\r\n")]:
             shown = self.typed(b"quick\n", b"quit\n", words=(*words, "--color", "never"), do=do)
@@ -1336,47 +1333,47 @@ class Find(Case):
     def test_for_other_programs(self):
         self.write("notes/a b.txt", "quick\n")
         self.write("notes/c.txt", "so quick\n")
-        self.run_script("folder.py", self.path, self.at("notes"))
+        self.run_script("folder", self.path, self.at("notes"))
         paths = [os.path.realpath(self.at(f"notes/{name}")) for name in ("c.txt", "a b.txt")]
-        self.run_script("find.py", self.path, "quick", "--paths", "-0")
+        self.run_script("find", self.path, "quick", "--paths", "-0")
         self.assertEqual(self.out, "".join(f"{path}\0" for path in paths))
-        self.run_script("find.py", self.path, "quick", "--names")
+        self.run_script("find", self.path, "quick", "--names")
         self.assertEqual(self.out, f"c.txt\n{name_of('a b.txt')}\n")
-        self.run_script("find.py", self.path, "quick", "--count")
+        self.run_script("find", self.path, "quick", "--count")
         self.assertEqual(self.out, "2\n")
-        self.run_script("find.py", self.path, "zebra", "--count", expect=1)
-        self.run_script("find.py", self.path, "quick", "--json", "--context", "--limit", "1")
+        self.run_script("find", self.path, "zebra", "--count", expect=1)
+        self.run_script("find", self.path, "quick", "--json", "--context", "--limit", "1")
         known = {"number": 2, "name": "c.txt", "path": paths[0], "title": "c.txt", "line": 1, "text": "so quick"}
         self.assertEqual(json.loads(self.out), known)
-        self.run_script("find.py", self.path, "quick", "--show")
+        self.run_script("find", self.path, "quick", "--show")
         self.assertEqual(self.out, "so quick\n")
         # A file that is gone, a folder that has moved, and an index whose stamps are gone.
         os.remove(paths[0])
-        self.run_script("find.py", self.path, "quick", "--context", "--limit", "1")
+        self.run_script("find", self.path, "quick", "--context", "--limit", "1")
         self.assertRegex(self.out, r"\n    .*/c.txt \(gone\)\n")
-        self.assertIn("find: c.txt: gone", self.run_script("find.py", self.path, "quick", "--show"))
+        self.assertIn("find: c.txt: gone", self.run_script("find", self.path, "quick", "--show"))
         shutil.move(self.at("notes"), self.at("moved"))
-        self.run_script("find.py", self.path, "quick", "--paths", "--oldest", "--limit", "1", "--source", self.at("moved"))
+        self.run_script("find", self.path, "quick", "--paths", "--oldest", "--limit", "1", "--source", self.at("moved"))
         self.assertEqual(self.out, self.at("moved/a b.txt") + "\n")
         os.remove(self.path + ".stamps")
-        self.assertIn("is not known", self.run_script("find.py", self.path, "quick", "--context", expect=2))
+        self.assertIn("is not known", self.run_script("find", self.path, "quick", "--context", expect=2))
 
     def test_parts_are_one_answer(self):
         for name in ("a.txt", "long" * 20):
             self.write(f"notes/{name}", "quick " + "word " * (LINE_LIMIT // 2) + "quick")
         self.write("notes/a.txt~p2", "quick")
-        self.run_script("folder.py", self.path, self.at("notes"))
+        self.run_script("folder", self.path, self.at("notes"))
         self.assertGreaterEqual(len(self.bodies()), 7)
         rows = {"a.txt", name_of("a.txt~p2"), name_of("long" * 20)}
-        self.run_script("find.py", self.path, "quick", "--names")
+        self.run_script("find", self.path, "quick", "--names")
         self.assertEqual(sorted(self.out.split()), sorted(rows))
-        self.run_script("find.py", self.path, "quick")
+        self.run_script("find", self.path, "quick")
         self.assertIn("found 3\n", self.out)
-        self.run_script("find.py", self.path, "quick", "--count")
+        self.run_script("find", self.path, "quick", "--count")
         self.assertEqual(self.out, "3\n")
         # Fewer parts leave none of the older ones.
         self.write("notes/a.txt", "quick")
-        self.assertIn("1 changed, 2 unchanged", self.run_script("folder.py", self.path, self.at("notes")))
+        self.assertIn("1 changed, 2 unchanged", self.run_script("folder", self.path, self.at("notes")))
         self.assertEqual([name for name in self.bodies() if name.startswith("a.txt")], [name_of("a.txt~p2"), "a.txt"])
 
     def test_backwards(self):
@@ -1391,13 +1388,13 @@ class Find(Case):
             b"of a quick \x1b[2J fox\n\nFrom b Mon Jan  1 00:00:00 2024\nMessage-ID: <two@x>\nFrom: bob@x\nSubject: Re: Red\n\nquick\n"
         )
         path = self.write("mail.mbox", archive)
-        self.run_script("mail.py", self.path, path)
+        self.run_script("mail", self.path, path)
         box = mailbox.Maildir(self.at("Mail"), create=True)
         box.add(b"Message-ID: <three@x>\nSubject: s\n\nthe quick letter\n")
-        self.run_script("mail.py", self.path, self.at("Mail"))
+        self.run_script("mail", self.path, self.at("Mail"))
         status = self.write("status", "Package: dog\nDescription: a dog\n quick and lazy\n\nPackage: fox\nDescription: x\n quick\n")
-        self.run_script("packages.py", self.path, status)
-        self.run_script("find.py", self.path, "quick", "--context", "--oldest")
+        self.run_script("packages", self.path, status)
+        self.run_script("find", self.path, "quick", "--context", "--oldest")
         shown = [line.replace(os.path.realpath(self.place.name) + "/", "") for line in self.out.split("\n")]
         shown[7] = re.sub("new/.*: s", "new/N: s", shown[7])
         self.assertEqual(
@@ -1422,44 +1419,44 @@ class Find(Case):
                 "",
             ],
         )
-        self.run_script("find.py", self.path, "from: ann@x", "--show")
+        self.run_script("find", self.path, "from: ann@x", "--show")
         self.assertEqual(self.out, "Subject: Red\nFrom: ann@x\nDate: 2024-01-01 20240101\n\nof a quick \x1b[2J fox\n")
-        self.run_script("find.py", self.path, "lazy", "--json")
+        self.run_script("find", self.path, "lazy", "--json")
         known = json.loads(self.out)
         self.assertEqual(self.read(status)[known["begin"] :][: known["length"]].split(b"\n")[0], b"Package: dog")
         # By the archive alone.
-        self.run_script("mail.py", "--show", path, "two@x")
+        self.run_script("mail", "--show", path, "two@x")
         self.assertEqual(self.out, "Subject: Re: Red\nFrom: bob@x\n\nquick\n")
-        self.run_script("mail.py", "--show", "--raw", path, "two@x")
+        self.run_script("mail", "--show", "--raw", path, "two@x")
         self.assertEqual(self.out, "Message-ID: <two@x>\nFrom: bob@x\nSubject: Re: Red\n\nquick\n")
-        self.assertIn("it has no message three@x", self.run_script("mail.py", "--show", path, "three@x", expect=1))
+        self.assertIn("it has no message three@x", self.run_script("mail", "--show", path, "three@x", expect=1))
         # A file of memory that nobody can read, whoever asks.
-        said = self.run_script("mail.py", "--show", "/proc/self/mem", "three@x", expect=3)
+        said = self.run_script("mail", "--show", "/proc/self/mem", "three@x", expect=3)
         self.assertEqual(said, "mail: /proc/self/mem: Input/output error\n")
         ours, theirs = os.pipe()
         os.close(ours)
-        self.assertEqual(self.run_script("mail.py", "--show", "--raw", path, "two@x", stdout=theirs), "")
+        self.assertEqual(self.run_script("mail", "--show", "--raw", path, "two@x", stdout=theirs), "")
         os.close(theirs)
         # Where a message has moved, the next run notes it.
         self.write("mail.mbox", archive[archive.index(b"From b") :])
-        said = self.run_script("mail.py", self.path, path)
+        said = self.run_script("mail", self.path, path)
         self.assertIn("1 document: 0 added, 1 unchanged", said)
         self.assertIn("1 document of earlier runs not seen any more, and still in the index", said)
-        self.run_script("find.py", self.path, "bob@x", "--show")
+        self.run_script("find", self.path, "bob@x", "--show")
         self.assertEqual(self.out, "Subject: Re: Red\nFrom: bob@x\n\nquick\n")
 
     def test_prompt(self):
         self.write("notes/c.txt", "quick\n")
-        self.run_script("folder.py", self.path, self.at("notes"))
+        self.run_script("folder", self.path, self.at("notes"))
         queries = self.write("queries", "quick\n\nfault 0 Word\nzebra\nquick\n")
         with open(queries) as file:
-            said = self.run_script("find.py", self.path, stdin=file)
+            said = self.run_script("find", self.path, stdin=file)
         self.assertEqual(self.out, "1 c.txt\nfound 1\nfound 0\n1 c.txt\nfound 1\n")
         self.assertIn("! query 0 Word", said)
         # These are words where no one types.
         queries = self.write("queries", "help\nquit\n")
         with open(queries) as file:
-            self.run_script("find.py", self.path, stdin=file, expect=1)
+            self.run_script("find", self.path, stdin=file, expect=1)
         self.assertEqual(self.out, "found 0\nfound 0\n")
 
     def typed(self, *lines, words=(), do=None, **variables):
@@ -1467,7 +1464,7 @@ class Find(Case):
         ours, theirs = pty.openpty()
         variables = {"BUNCOCEDAR_HISTORY": self.at("history"), "TERM": "xterm", **variables}
         with mock.patch.dict(os.environ, variables):
-            process = self.start("find.py", *words, self.path, do=do, stdin=theirs, stdout=theirs)
+            process = self.start("find", *words, self.path, do=do, stdin=theirs, stdout=theirs)
         os.close(theirs)
         shown = ""
         for line in lines:
@@ -1484,7 +1481,7 @@ class Find(Case):
     def test_terminal(self):
         for number in range(25):
             self.write(f"notes/{number:02}", "so quick \x1b]0;title\x07")
-        self.run_script("folder.py", self.path, self.at("notes"))
+        self.run_script("folder", self.path, self.at("notes"))
         shown = self.typed(b"quick\n", b"fault 2 Word\n", b"\x04", words=("--color", "never", "--newest"))
         self.assertEqual(self.status, 2)
         self.assertIn("25 24\r\n24 23\r\n", shown)
@@ -1509,9 +1506,9 @@ class Find(Case):
     def test_editor(self):
         self.write("notes/a b.txt", "one\ntwo\nso quick\n")
         self.write("notes/packed.gz", gzip.compress(b"a quick one"))
-        self.run_script("folder.py", self.path, self.at("notes"))
+        self.run_script("folder", self.path, self.at("notes"))
         archive = b"From a Mon Jan  1 00:00:00 2024\nMessage-ID: <one@x>\nFrom: ann@x\nSubject: Red\n\nof a fox\n"
-        self.run_script("mail.py", self.path, self.write("mail.mbox", archive))
+        self.run_script("mail", self.path, self.write("mail.mbox", archive))
         path = os.path.realpath(self.at("notes/a b.txt"))
         # An editor that takes a line, with words of its own, and one of which that is not known.
         for variables, words in [
@@ -1519,7 +1516,7 @@ class Find(Case):
             ({"VISUAL": "", "EDITOR": self.editor("other")}, [path]),
         ]:
             with mock.patch.dict(os.environ, variables):
-                self.run_script("find.py", self.path, "so quick", "--edit")
+                self.run_script("find", self.path, "so quick", "--edit")
             self.assertEqual((self.out, self.read(self.at("words")).decode().split("\n")), ("read\n", [*words, ""]))
         # What is no file of its own is a copy that can't be written, and goes with the editor.
         with mock.patch.dict(os.environ, {"VISUAL": self.editor("vi")}):
@@ -1527,7 +1524,7 @@ class Find(Case):
                 ("fox", "one@x.txt", "Subject: Red\nFrom: ann@x\n\nof a fox\n"),
                 ("packed.gz", "packed.gz.txt", "a quick one\n"),
             ]:
-                self.run_script("find.py", self.path, query, "--edit")
+                self.run_script("find", self.path, query, "--edit")
                 line, opened, _ = self.read(self.at("words")).decode().split("\n")
                 self.assertEqual((line, os.path.basename(opened)), ("+4" if query == "fox" else "+1", name))
                 self.assertEqual(self.read(self.at("given")).decode(), content)
@@ -1541,27 +1538,27 @@ class Find(Case):
             self.assertIn("find: 99: where it was found is not known", self.said)
             self.assertEqual(self.status, 1)
             with mock.patch.dict(os.environ, {"STATUS": "3"}):
-                said = self.run_script("find.py", self.path, "fox", "--edit", expect=1)
+                said = self.run_script("find", self.path, "fox", "--edit", expect=1)
             self.assertIn("the editor ended with status 3", said)
         with mock.patch.dict(os.environ, {"VISUAL": "/no/such"}):
-            self.assertIn("the editor cannot be started", self.run_script("find.py", self.path, "fox", "--edit", expect=1))
-        self.assertIn("--edit goes with a query", self.run_script("find.py", self.path, "--edit", expect=2))
-        self.run_script("find.py", self.path, "zebra", "--edit", expect=1)
+            self.assertIn("the editor cannot be started", self.run_script("find", self.path, "fox", "--edit", expect=1))
+        self.assertIn("--edit goes with a query", self.run_script("find", self.path, "--edit", expect=2))
+        self.run_script("find", self.path, "zebra", "--edit", expect=1)
 
     def test_colours(self):
         self.write("notes/c.txt", "so Quick, quick\n")
-        self.run_script("folder.py", self.path, self.at("notes"))
+        self.run_script("folder", self.path, self.at("notes"))
         for choice, marked in (("always", True), ("never", False), ("auto", False)):
-            self.run_script("find.py", self.path, "quick", "--context", "--color", choice)
+            self.run_script("find", self.path, "quick", "--context", "--color", choice)
             self.assertEqual(self.out.count(terminal.MARK), 2 * marked)
 
     def test_pager(self):
         self.write("notes/c.txt", "quick\n")
-        self.run_script("folder.py", self.path, self.at("notes"))
+        self.run_script("folder", self.path, self.at("notes"))
         for pager, shows in (("sed s/^/paged:/", "paged:1 c.txt\r\npaged:found 1\r\n"), ("/no/such", "1 c.txt\r\nfound 1\r\n")):
             ours, theirs = pty.openpty()
             with mock.patch.dict(os.environ, {"PAGER": pager}):
-                process = self.start("find.py", "--color", "never", self.path, "quick", stdout=theirs)
+                process = self.start("find", "--color", "never", self.path, "quick", stdout=theirs)
             os.close(theirs)
             self.assertEqual(read_all(ours), shows)
             process.communicate(timeout=PATIENCE)
@@ -1607,11 +1604,11 @@ class RealProgram(Case):
         return self.at("doc.mbox"), {f"{number}@doc": paragraph.casefold() for number, paragraph in enumerate(paragraphs[:count])}
 
     def found(self, query):
-        self.run_script("find.py", self.path, query)
+        self.run_script("find", self.path, query)
         return self.out.strip().split("\n")[:-1]
 
     def kill_in_the_middle(self, path):
-        process = self.start("mail.py", self.path, path)
+        process = self.start("mail", self.path, path)
         stamps = self.path + ".stamps"
         until(lambda: os.path.exists(stamps) and os.path.getsize(stamps) > 5_000 or process.poll() is not None)
         process.kill()
@@ -1620,12 +1617,12 @@ class RealProgram(Case):
     def test_killed_and_brought_in_again(self):
         path = self.mailbox(1000, 20)
         self.kill_in_the_middle(path)
-        said = self.run_script("mail.py", self.path, path)
+        said = self.run_script("mail", self.path, path)
         parts = re.findall(r"([\d,]+) ([a-z ]+)", said.split("documents: ")[1])
         counts = {kind: int(number.replace(",", "")) for number, kind in parts}
         self.assertEqual(sum(counts.values()), 1000, said)
         self.assertLessEqual(counts.get("added again", 0), 64)
-        self.assertIn("0 added, 1,000 unchanged", self.run_script("mail.py", self.path, path))
+        self.assertIn("0 added, 1,000 unchanged", self.run_script("mail", self.path, path))
         names = [row.split()[1] for row in self.found("letter")]
         self.assertEqual(sorted(names), sorted(f"{number}@x" for number in range(1000)))
         self.assertEqual([row.split()[1] for row in self.found("w77 OR title:77")], ["77@x"])
@@ -1633,8 +1630,8 @@ class RealProgram(Case):
     def test_installed_documentation(self):
         path, texts = self.documentation(1000)
         self.kill_in_the_middle(path)
-        self.run_script("mail.py", self.path, path)
-        self.assertIn("0 added, 1,000 unchanged", self.run_script("mail.py", self.path, path))
+        self.run_script("mail", self.path, path)
+        self.assertIn("0 added, 1,000 unchanged", self.run_script("mail", self.path, path))
         words = collections.Counter(word for text in texts.values() for word in set(text.split()) if word.isascii() and word.isalpha())
         for word, _ in words.most_common(8):
             # A word that stands between blanks is found, and what is found has the word.
@@ -1651,33 +1648,33 @@ class RealProgram(Case):
     def test_more_than_sixteen_levels(self):
         path = self.mailbox(200, 1000)
         self.sixteen_levels()
-        self.assertIn("200 documents: 200 added\n", self.run_script("mail.py", self.path, path))
+        self.assertIn("200 documents: 200 added\n", self.run_script("mail", self.path, path))
         self.assertEqual(len(self.found("letter")), 200)
         self.assertEqual(len(self.found("x")), 16)
-        self.assertIn("200 documents: 0 added, 200 unchanged\n", self.run_script("mail.py", self.path, path))
+        self.assertIn("200 documents: 0 added, 200 unchanged\n", self.run_script("mail", self.path, path))
 
     def test_made_beside(self):
         path = self.mailbox(50, 1000)
-        said = self.run_script("mail.py", "--fast", self.path, path)
+        said = self.run_script("mail", "--fast", self.path, path)
         self.assertIn("50 documents: 50 added\n", said)
         self.assertEqual(sorted(os.listdir(self.place.name)), ["mail.mbox", "x.alta", "x.alta.stamps"])
         self.assertEqual(len(self.found("letter")), 50)
         self.assertEqual(self.found("w7"), ["8 7@x"])
         # The index is there now, and is added to.
         path = self.mailbox(60, 1000)
-        said = self.run_script("mail.py", "--fast", self.path, path)
+        said = self.run_script("mail", "--fast", self.path, path)
         self.assertIn("x.alta is there already", said)
         self.assertIn("60 documents: 10 added, 50 unchanged\n", said)
         # Where a link leads an index is made as without --fast.
         os.symlink("z.alta", self.at("link"))
-        self.assertIn("added to where it stands", self.run_script("mail.py", "--fast", self.at("link"), path))
+        self.assertIn("added to where it stands", self.run_script("mail", "--fast", self.at("link"), path))
         self.assertTrue(os.path.islink(self.at("link")) and os.path.getsize(self.at("z.alta")))
         # An interrupt keeps what was done.
         self.path = self.at("y.alta")
-        process = self.start("packages.py", "--fast", self.path, stdin=subprocess.PIPE)
+        process = self.start("packages", "--fast", self.path, stdin=subprocess.PIPE)
         process.stdin.write("".join(f"Package: p{i}\nDescription: letter {i}\n\n" for i in range(5)))
         process.stdin.flush()
-        pattern = os.path.join(importing.MEMORY if os.path.isdir(importing.MEMORY) else tempfile.gettempdir(), "buncocedar-*/index.alta")
+        pattern = os.path.join(bringing.MEMORY if os.path.isdir(bringing.MEMORY) else tempfile.gettempdir(), "buncocedar-*/index.alta")
         until(lambda: any(b"letter 4" in self.read(beside) for beside in glob.glob(pattern)))
         self.assertFalse(os.path.exists(self.path))
         process.send_signal(signal.SIGINT)
@@ -1686,9 +1683,9 @@ class RealProgram(Case):
         self.assertEqual(len(self.found("letter")), 5)
 
     def test_what_an_import_left_that_was_killed(self):
-        beside = os.path.join(importing.memory_folder(), importing.BESIDE + "*")
+        beside = os.path.join(bringing.memory_folder(), bringing.BESIDE + "*")
         others = set(glob.glob(beside))
-        process = self.start("packages.py", "--fast", self.path, stdin=subprocess.PIPE)
+        process = self.start("packages", "--fast", self.path, stdin=subprocess.PIPE)
         process.stdin.write("Package: p\nDescription: letter\n\n")
         process.stdin.flush()
         until(lambda: any(b"letter" in self.read(index) for index in glob.glob(beside + "/index.alta")))
@@ -1699,30 +1696,30 @@ class RealProgram(Case):
         self.write(".making-abcdefgh/index.alta", "half")
         self.write(".making-abcdefgh/lock", "")
         status = self.write("status", "Package: q\nDescription: letter\n")
-        said = self.run_script("packages.py", "--fast", self.path, status)
+        said = self.run_script("packages", "--fast", self.path, status)
         self.assertIn(f"packages: {left} is taken away: an import that was killed has left it\n", said)
         self.assertFalse(os.path.exists(left))
         self.assertEqual(self.found("letter"), ["1 q"])
         self.assertEqual(sorted(os.listdir(self.place.name)), ["status", "x.alta", "x.alta.stamps"])
         self.write(".making-abcdefgh/index.alta", "half")
         self.write(".making-abcdefgh/lock", "")
-        self.assertIn("an import that was killed", self.run_script("packages.py", self.path, status))
+        self.assertIn("an import that was killed", self.run_script("packages", self.path, status))
         self.assertFalse(os.path.exists(self.at(".making-abcdefgh")))
 
     def test_an_index_whose_place_was_taken_meanwhile(self):
         def documents():
             self.write("x.alta", "of another one")
-            yield importing.Document("a", b"", lambda: importing.Text("", "letter"))
+            yield Document("a", b"", lambda: Text("", "letter"))
 
         told = io.StringIO()
         with mock.patch.dict(os.environ, {"BUNCOCEDAR_PROGRAM": PROGRAM}), contextlib.redirect_stderr(told):
-            with mock.patch.object(importing, "memory_folder", lambda: self.place.name):
-                self.assertEqual(importing.bring("mail", self.path, stamps.Source("mail", "box"), documents(), fast=True), 3)
+            with mock.patch.object(bringing, "memory_folder", lambda: self.place.name):
+                self.assertEqual(bringing.bring("mail", self.path, stamps.Source("mail", "box"), documents(), fast=True), 3)
         (kept,) = glob.glob(self.at("kept-*/index.alta"))
         self.assertIn(f"stands in {kept}", told.getvalue())
         self.assertEqual(self.read(self.path), b"of another one")
         os.remove(self.path)
-        self.run_script("compact.py", kept, self.path)
+        self.run_script("compact", kept, self.path)
         self.assertEqual(self.found("letter"), ["1 a"])
         self.assertEqual(set(stamps.Records(self.path + ".stamps").of), {"a"})
 
@@ -1734,7 +1731,7 @@ class RealProgram(Case):
             b"The report of\nthe year.\n--b\nContent-Type: application/pdf; name=plan.pdf\n\nx\n--b--\n\n"
             b"From b Mon Jan  1 00:00:00 2024\nMessage-ID: <b@x>\nFrom: bob@example.org\nTo: ann@example.org\n\nThanks, Ann.\n",
         )
-        self.run_script("mail.py", self.path, path)
+        self.run_script("mail", self.path, path)
         for query, rows in [
             ('"from ann"', ["1 a@x"]),
             ("from NEAR/3 bob", ["2 b@x"]),
@@ -1745,32 +1742,32 @@ class RealProgram(Case):
             ("ann", ["2 b@x", "1 a@x"]),
         ]:
             self.assertEqual(self.found(query), rows, query)
-        self.run_script("find.py", self.path, '"report of the year"', "--context")
+        self.run_script("find", self.path, '"report of the year"', "--context")
         self.assertRegex(self.out, r"1 a@x\n    .*mail.mbox: 2024-01-02 Ann Lee <ann@example.org>: Report\n    The report of\nfound 1\n")
-        self.run_script("find.py", self.path, "name:b@x", "--show")
+        self.run_script("find", self.path, "name:b@x", "--show")
         self.assertEqual(self.out, "Subject: \nFrom: bob@example.org\nTo: ann@example.org\n\nThanks, Ann.\n")
 
     def test_long_documents(self):
         # The last words of a part begin the next one, so that no phrase is lost.
         words = [f"w{number}" for number in range(LINE_LIMIT // 2)]
         self.write("notes/long.txt", "\n".join(words))
-        self.run_script("folder.py", self.path, self.at("notes"))
+        self.run_script("folder", self.path, self.at("notes"))
         parts = len(stamps.Records(self.path + ".stamps").of["long.txt"].numbers)
         self.assertGreater(parts, 1)
-        with importing.Index(self.path, program=PROGRAM) as index:
+        with Index(self.path, program=PROGRAM) as index:
             self.assertEqual(index.stats().documents, parts)
             lost = [at for at in range(len(words) - 1) if at % 97 == 0 and not index.count(f'"{words[at]} {words[at + 1]}"')]
             self.assertEqual(lost, [])
             # Each border has its words twice, and so each phrase over it.
-            text = importing.Text("long.txt", "\n".join(words))
-            begins = [body.split(" ")[:2] for _, _, body in importing.parts_of("long.txt", text, False)[1:]]
+            text = Text("long.txt", "\n".join(words))
+            begins = [body.split(" ")[:2] for _, _, body in parts_of("long.txt", text, False)[1:]]
             self.assertEqual([index.count(f'"{first} {second}"') for first, second in begins], [2] * (parts - 1))
-        self.run_script("find.py", self.path, words[-1], "--context")
+        self.run_script("find", self.path, words[-1], "--context")
         self.assertRegex(self.out, rf"long.txt:{len(words)}: {words[-1]}\nfound 1")
 
     def test_more_than_a_journal(self):
         path = self.mailbox(200, 1000)
-        self.assertIn("200 documents: 200 added\n", self.run_script("mail.py", self.path, path))
+        self.assertIn("200 documents: 200 added\n", self.run_script("mail", self.path, path))
         self.assertEqual(len(self.found("letter")), 200)
 
 

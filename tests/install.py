@@ -18,6 +18,8 @@ import unittest
 
 TOP = os.path.dirname(os.path.dirname(os.path.abspath(__file__)))
 PROGRAM = None
+COMMANDS = ("mail", "folder", "packages", "find", "shell", "serve", "check", "compact")
+FORMER = ("mail", "folder", "packages", "find", "shell", "server", "check", "compact")  # names that go with the next version
 PATIENCE = 300  # seconds after which what should have come counts as missing
 
 
@@ -345,10 +347,8 @@ class Client(unittest.TestCase):
         words = ["install", "--quiet", "--no-index", "--no-deps", "--target", cls.place, os.path.join(TOP, "client")]
         done(*pip, *words, env={**os.environ, "PIP_ROOT_USER_ACTION": "ignore"})
         assert sorted(os.listdir(os.path.join(TOP, "client"))) == before, "pip has left something in the checkout"
+        cls.bunco = os.path.join(cls.place, "bin", "bunco")
         cls.environment = {**os.environ, "PYTHONPATH": cls.place, "BUNCOCEDAR_PROGRAM": PROGRAM}
-
-    def command(self, name):
-        return os.path.join(self.place, "bin", name)
 
     def python(self, text, **environment):
         return done(sys.executable, "-c", text, cwd=self.folder, env={**self.environment, **environment})
@@ -359,18 +359,27 @@ class Client(unittest.TestCase):
         with open(os.path.join(notes, "a"), "w") as file:
             file.write("The quick fox")
         path = os.path.join(self.folder, "notes.alta")
-        done(self.command("bunco-folder"), path, notes, env=self.environment)
-        self.assertIn("1 a\n", done(self.command("bunco-find"), path, "fox", env=self.environment))
-        self.assertIn("found 0\n", done(self.command("bunco-find"), path, "dog", env=self.environment, status=1))
-        asked = done(self.command("bunco-shell"), path, env=self.environment, input="count fox\n")
+        done(self.bunco, "folder", path, notes, env=self.environment)
+        self.assertIn("1 a\n", done(self.bunco, "find", path, "fox", env=self.environment))
+        self.assertIn("found 0\n", done(self.bunco, "find", path, "dog", env=self.environment, status=1))
+        asked = done(self.bunco, "shell", path, env=self.environment, input="count fox\n")
         self.assertEqual(asked, "found 1\n")
-        self.assertIn("--create", done(self.command("bunco-server"), "--help", env=self.environment))
-        # Each script of the checkout that can be run is a command.
-        examples = os.path.join(TOP, "examples")
-        names = [name for name in os.listdir(examples) if name.endswith(".py")]
-        runs = [name[:-3] for name in names if os.access(os.path.join(examples, name), os.X_OK)]
-        wanted = sorted([f"bunco-{name}" for name in runs] + ["bunco-server"])
-        self.assertEqual(sorted(os.listdir(os.path.join(self.place, "bin"))), wanted)
+        # What is installed is what the checkout has, command for command.
+        checkout = os.path.join(TOP, "bunco")
+        self.assertEqual(done(self.bunco, "--help", env=self.environment), done(checkout, "--help"))
+        for command in COMMANDS:
+            self.assertEqual(done(self.bunco, command, "--help", env=self.environment), done(checkout, command, "--help"))
+
+    def test_former_names(self):
+        for command in FORMER:
+            former = os.path.join(self.place, "bin", f"bunco-{command}")
+            word = "serve" if command == "server" else command
+            said = done(former, "--help", env=self.environment)
+            note = f"bunco-{command}: this name goes with the next version; use bunco {word}\n"
+            self.assertEqual(said.count(note), 1)
+            self.assertEqual(said.replace(note, ""), done(self.bunco, word, "--help", env=self.environment))
+        installed = sorted(["bunco", *(f"bunco-{command}" for command in FORMER)])
+        self.assertEqual(sorted(os.listdir(os.path.join(self.place, "bin"))), installed)
 
     def test_the_module(self):
         said = self.python(

@@ -29,7 +29,8 @@ import buncocedar  # noqa: E402
 import fake  # noqa: E402
 from buncocedar import Index  # noqa: E402
 from buncocedar.beside import give_rights  # noqa: E402
-from buncocedar.server import IDLE_SECONDS, LEVELS_KEPT, LINES_AHEAD, Server, Stopped, batches, level_count  # noqa: E402
+from buncocedar.fileformat import HEAD, level_count  # noqa: E402
+from buncocedar.server import IDLE_SECONDS, LEVELS_KEPT, LINES_AHEAD, Server, Stopped, batches  # noqa: E402
 
 FAKE = fake.installed()
 PROGRAM = None
@@ -60,7 +61,7 @@ class Case(unittest.TestCase):
 
     def serve(self, files=None, **do):
         """A server of the index that listens, and may have no more files than this open at a time."""
-        words = [sys.executable, os.path.join(TOP, "client", "server.py"), self.path, "--create"]
+        words = [sys.executable, os.path.join(TOP, "bunco"), "serve", self.path, "--create"]
         limited = ["sh", "-c", f'ulimit -n {files} && exec "$@"', "sh"] if files else []
         server = subprocess.Popen(
             limited + words,
@@ -253,9 +254,9 @@ class Lines(Case):
         server = self.serve()
         # The folder has the index and the server's socket besides, which are no documents.
         words = [self.folder]
-        for script, arguments, status in [("folder.py", words, 0), ("find.py", ["fox"], 0), ("find.py", ["dog"], 1)]:
+        for script, arguments, status in [("folder", words, 0), ("find", ["fox"], 0), ("find", ["dog"], 1)]:
             done = subprocess.run(
-                [sys.executable, os.path.join(TOP, "examples", script), self.path, *arguments],
+                [sys.executable, os.path.join(TOP, "bunco"), script, self.path, *arguments],
                 env={**os.environ, "BUNCOCEDAR_PROGRAM": "/nonexistent"},
                 capture_output=True,
                 timeout=PATIENCE,
@@ -354,8 +355,11 @@ class Ends(Case):
     def test_what_is_no_end(self):
         # A file that can't be read, and a program that is too old to join levels: the server goes on.
         many = os.path.join(self.folder, "many")
+        count = LEVELS_KEPT + 1
+        numbers = [1, 1, 0, 0, *(number for level in range(count) for number in (HEAD + 32 * level, 32))]
         with open(many, "wb") as file:
-            file.write(b"\xa5\x01\0" + bytes([LEVELS_KEPT + 1]))
+            file.write(b"\xa5\x01\0" + bytes([count]) + bytes(4) + b"".join(number.to_bytes(8, "big") for number in numbers))
+            file.truncate(HEAD + 32 * count)
         for path, step in [(self.folder, None), (many, buncocedar.UnknownCommand("! unknown command"))]:
             handle = os.open(path, os.O_RDONLY)
             self.addCleanup(os.close, handle)
@@ -394,7 +398,7 @@ class Ends(Case):
             pass
         with open(self.socket, "w") as file:
             file.write("my notes\n")
-        words = [sys.executable, os.path.join(TOP, "client", "server.py")]
+        words = [sys.executable, os.path.join(TOP, "bunco"), "serve"]
         environment = {**os.environ, "BUNCOCEDAR_PROGRAM": self.program}
 
         def refused(*more):

@@ -1,5 +1,5 @@
 #!/usr/bin/env python3
-"""Tests of `examples/shell.py`, at a terminal and behind a pipe, and of what `examples/find.py` takes and gives there.
+"""Tests of `bunco shell`, at a terminal and behind a pipe, and of what `bunco find` takes and gives there.
 
 usage: tests/shell.py [--program PATH]
 
@@ -18,18 +18,18 @@ import unittest
 import fake
 
 TOP = os.path.dirname(os.path.dirname(os.path.abspath(__file__)))
-SHELL, FIND, FOLDER = (os.path.join(TOP, "examples", f"{name}.py") for name in ("shell", "find", "folder"))
+BUNCO = os.path.join(TOP, "bunco")
 PROGRAM = None
 PATIENCE = 300  # seconds after which what should have come counts as missing
 
 
 class Terminal:
-    """The shell, or another script, at a terminal of its own."""
+    """The shell, or another command, at a terminal of its own."""
 
-    def __init__(self, words, environment, script=SHELL):
+    def __init__(self, words, environment, command="shell"):
         self.process, self.file = pty.fork()
         if self.process == 0:
-            os.execve(sys.executable, [sys.executable, script, *words], {**environment, "TERM": "dumb"})
+            os.execve(sys.executable, [sys.executable, BUNCO, command, *words], {**environment, "TERM": "dumb"})
         self.seen = ""
 
     def wait_for(self, text):
@@ -70,10 +70,10 @@ class Case(unittest.TestCase):
         terminal.wait_for("alta> ")
         return terminal
 
-    def piped(self, text, *words, script=SHELL, **variables):
+    def piped(self, text, *words, command="shell", **variables):
         """Its status and what it wrote; lone surrogates in the text and there are bytes that are no text."""
         done = subprocess.run(
-            [sys.executable, script, self.path, *words],
+            [sys.executable, BUNCO, command, self.path, *words],
             input=text.encode(errors="surrogateescape"),
             env={**self.environment, **variables},
             capture_output=True,
@@ -150,13 +150,13 @@ class AtATerminal(Case):
         os.mkdir(folder)
         with open(os.path.join(folder, "\x1b]0;x\x07"), "w") as file:
             file.write("fox")
-        self.assertEqual(self.piped("", folder, script=FOLDER)[0], 0)
+        self.assertEqual(self.piped("", folder, command="folder")[0], 0)
         for more in (["--paths"], ["--context"], ["--names"], []):
-            find = Terminal([self.path, "fox", "--color", "always", "--no-pager", *more], self.environment, FIND)
+            find = Terminal([self.path, "fox", "--color", "always", "--no-pager", *more], self.environment, "find")
             self.assertEqual(find.status(), 0)
             self.assertNotIn("\x1b]", find.seen)
             self.assertEqual("notes/\ufffd]0;x\ufffd" in find.seen, "--paths" in more or "--context" in more, find.seen)
-        self.assertEqual(self.piped("", "fox", "--paths", script=FIND)[:2], (0, f"{folder}/\x1b]0;x\x07\n"))
+        self.assertEqual(self.piped("", "fox", "--paths", command="find")[:2], (0, f"{folder}/\x1b]0;x\x07\n"))
 
 
 class BehindAPipe(Case):
@@ -198,16 +198,16 @@ class BehindAPipe(Case):
     def test_queries_of_find(self):
         self.piped("add a\t\tcaf\nadd b\t\tcaf\u00e9\n", "--create")
         for variables in ({"LC_ALL": "C"}, {"PYTHONIOENCODING": "utf-8:strict"}, {"PYTHONIOENCODING": "latin-1"}):
-            status, out, err = self.piped("caf\udce9\ncaf\u00e9\n", script=FIND, **variables)
+            status, out, err = self.piped("caf\udce9\ncaf\u00e9\n", command="find", **variables)
             self.assertEqual((status, out, err), (0, "2 b\nfound 1\n", "! not UTF-8\n"), variables)
-        status, out, err = self.piped("", b"caf\xe9", script=FIND)
+        status, out, err = self.piped("", b"caf\xe9", command="find")
         self.assertEqual((status, out, err), (2, "", "! not UTF-8\n"))
 
     def test_what_ends_it(self):
         status, _, err = self.piped("stats\n")
         self.assertEqual(status, 3)
         self.assertIn("no such file", err)
-        words = ["sh", "-c", 'exec "$@" <&-', "sh", sys.executable, SHELL, self.path, "--create"]
+        words = ["sh", "-c", 'exec "$@" <&-', "sh", sys.executable, BUNCO, "shell", self.path, "--create"]
         done = subprocess.run(words, env=self.environment, capture_output=True, timeout=PATIENCE)
         self.assertEqual((done.returncode, done.stdout, done.stderr), (0, b"", b""))
 

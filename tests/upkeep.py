@@ -1,5 +1,5 @@
 #!/usr/bin/env python3
-"""Tests of examples/compact.py and examples/check.py over the real program, with indexes that tests/levels.py spells.
+"""Tests of `bunco compact` and `bunco check` over the real program, with indexes that tests/levels.py spells.
 
 usage: tests/upkeep.py [--program PATH] [--rounds N] [--seed N]
 
@@ -50,7 +50,7 @@ def put(path, content):
 
 
 class Scripts:
-    """The scripts of examples/ over one program, and a folder for their files."""
+    """The commands of `bunco` over one program, and a folder for their files."""
 
     def __init__(self, program, folder):
         self.program = program
@@ -61,7 +61,7 @@ class Scripts:
 
     def start(self, script, *words):
         return subprocess.Popen(
-            [sys.executable, "-S", os.path.join(TOP, "examples", script), *words],
+            [sys.executable, "-S", os.path.join(TOP, "bunco"), script, *words],
             env={**os.environ, "BUNCOCEDAR_PROGRAM": self.program},
             stdin=subprocess.DEVNULL,
             stdout=subprocess.PIPE,
@@ -104,8 +104,8 @@ def copies(scripts, chance):
     content, _, _ = levels.split(chance, changes, chance.randrange(20, len(changes) + 1))
     old, new = put(scripts.at("old.alta"), content), scripts.at("new.alta")
     put(scripts.at("old.alta.stamps"), b"some stamps\n")
-    status, said = scripts.run("compact.py", old, new)
-    expect(status == 0, f"compact.py ended with {status}: {said}")
+    status, said = scripts.run("compact", old, new)
+    expect(status == 0, f"compact ended with {status}: {said}")
     expect(contents(old) == content, "the index was changed")
     expect(contents(new + ".stamps") == b"some stamps\n", "the stamps were not copied")
     same_index(content, contents(new))
@@ -114,7 +114,7 @@ def copies(scripts, chance):
         expect(over_old == over_new, "the copy answers something else")
     # What the merge has left free goes.
     os.remove(new)
-    expect(scripts.run("compact.py", old, new)[0] == 0, "the merged index was not copied")
+    expect(scripts.run("compact", old, new)[0] == 0, "the merged index was not copied")
     same_index(contents(old), contents(new))
     expect(levels.answered(scripts.program, old, levels.asking(4)) == levels.answered(scripts.program, new, levels.asking(4)), "merged")
     for path in (old, new, old + ".stamps", new + ".stamps"):
@@ -127,7 +127,7 @@ def program_made(scripts):
     subprocess.run([scripts.program, path, "init"], check=True)
     lines = [line for i in range(20) for line in (f"add d{i}\tt\tred fox {'brown ' * (i * 50)}", "flush")]
     levels.answered(scripts.program, path, [*lines, "delete d3", "delete d17", "merge", "delete d5", "add last\t\tfox"])
-    expect(scripts.run("compact.py", path, new)[0] == 0, "it was not copied")
+    expect(scripts.run("compact", path, new)[0] == 0, "it was not copied")
     same_index(contents(path), contents(new))
     expect(os.path.getsize(new) < os.path.getsize(path), "the copy is not smaller")
     expect(levels.answered(scripts.program, path, levels.asking(9)) == levels.answered(scripts.program, new, levels.asking(9)), "made")
@@ -143,8 +143,8 @@ def refusals(scripts, chance):
 
     def refused(why):
         before = sorted(os.listdir(scripts.folder))
-        status, said = scripts.run("compact.py", old, new)
-        expect(status == 3 and why in said, f"compact.py ended with {status} and said {said!r} in place of {why!r}")
+        status, said = scripts.run("compact", old, new)
+        expect(status == 3 and why in said, f"compact ended with {status} and said {said!r} in place of {why!r}")
         expect(sorted(os.listdir(scripts.folder)) == before, "something was written")
 
     put(new, b"a file")
@@ -188,7 +188,7 @@ def killed(scripts, chance):
     content, _, _ = levels.split(chance, changes, len(changes))
     put(old, content)
     for _ in range(10):
-        process = scripts.start("compact.py", old, new)
+        process = scripts.start("compact", old, new)
         time.sleep(chance.uniform(0, 0.3))
         process.send_signal(signal.SIGKILL)
         process.communicate()
@@ -207,10 +207,10 @@ def killed(scripts, chance):
 
 def checked(scripts, path, status, *texts):
     before = contents(path)
-    given, said = scripts.run("check.py", path)
-    expect(given == status, f"check.py ended with {given} in place of {status}: {said}")
+    given, said = scripts.run("check", path)
+    expect(given == status, f"check ended with {given} in place of {status}: {said}")
     for text in texts:
-        expect(text in said, f"check.py said {said!r} in place of {text!r}")
+        expect(text in said, f"check said {said!r} in place of {text!r}")
     expect(contents(path) == before, "the check has changed the index")
 
 
@@ -253,7 +253,7 @@ def checks(scripts):
     checked(scripts, one, 1, f"damaged at {reading.HEAD - 1}")
     put(one, b"a file of another kind")
     checked(scripts, one, 1, "it is no index")
-    expect(scripts.run("check.py", scripts.at("none"))[0] == 3, "what is not there was checked")
+    expect(scripts.run("check", scripts.at("none"))[0] == 3, "what is not there was checked")
 
 
 def lost(scripts):
@@ -262,15 +262,15 @@ def lost(scripts):
     os.mkdir(notes)
     for number in range(5):
         put(os.path.join(notes, f"{number}.txt"), b"text")
-    expect(scripts.run("folder.py", path, notes)[0] == 0, "the import failed")
+    expect(scripts.run("folder", path, notes)[0] == 0, "the import failed")
     older = contents(path)
     put(os.path.join(notes, "5.txt"), b"text")
     put(os.path.join(notes, "6.txt"), b"text")
-    scripts.run("folder.py", path, notes)
+    scripts.run("folder", path, notes)
     checked(scripts, path, 0, "its 7 documents are in the index")
     put(path, older)
     checked(scripts, path, 1, "of 7 documents 2 are not in the index")
-    said = scripts.run("folder.py", path, notes)[1]
+    said = scripts.run("folder", path, notes)[1]
     expect("the index has lost the documents 6 to 7" in said and "2 added, 5 unchanged" in said, f"the import said {said!r}")
     checked(scripts, path, 0, "its 7 documents are in the index")
 

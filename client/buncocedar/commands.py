@@ -142,7 +142,7 @@ class Commands:
 
     def cursor(self, query: str) -> Cursor:
         """A `Cursor` over the documents that match now. Raises `QueryFault` and `TooManyCursors`."""
-        return Cursor(self._exchange, self._ask("open", query, CURSOR, first_number).result())
+        return Cursor(self, self._ask("open", query, CURSOR, first_number).result())
 
     def stats(self) -> Stats:
         """The `Stats` of the index."""

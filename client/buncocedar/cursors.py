@@ -14,9 +14,9 @@ class Cursor:
     At most 64 are open at once; `close` gives one back, and so does the end of a `with`.
     """
 
-    def __init__(self, exchange, number):
+    def __init__(self, index, number):
         self.number = number
-        self._exchange = exchange
+        self._exchange = index._exchange
 
     def __enter__(self) -> Cursor:
         return self

@@ -29,8 +29,12 @@ import time
 from collections import deque
 from concurrent.futures import Future
 
-from . import LINE_LIMIT, Ended, Error, Index, Refused, server_path
 from .beside import give_rights
+from .errors import Ended, Error, Refused
+from .fileformat import level_count
+from .index import Index
+from .lines import LINE_LIMIT
+from .links import server_path
 
 PAGE = 1_000  # rows of a search, at a time
 PIECE = 1 << 16  # bytes of a dump, at a time
@@ -45,20 +49,10 @@ STOPPED = 3
 
 _ON_A_CURSOR = re.compile(rb"(fetch|close) (0|[1-9][0-9]{0,19})(?![0-9])")
 _NO_CURSOR = b"65"  # a number that no cursor has
-_OPEN_SLOTS = (b"\xa5\x01", b"\xa5\x02")  # an open gate and a version whose slots have their levels counted here
 
 
 class Stopped(Exception):
     """The server ends, and takes no further line."""
-
-
-def level_count(file):
-    """How many levels the root of the index in this file names, as docs/FORMAT.md says; none where it is of another version."""
-    slots = [os.pread(file.fileno(), 4, place) for place in (0, 4_096)]
-    roots = [(slot[2], slot[3]) for slot in slots if slot[:2] in _OPEN_SLOTS and len(slot) == 4]
-    if len(roots) == 2 and (roots[0][0] + 1) % 256 == roots[1][0]:
-        roots.reverse()
-    return roots[0][1] if roots else 0
 
 
 class Session:
@@ -390,19 +384,15 @@ def serve(options):
     return 0
 
 
-def main():
+def main(arguments=None):
     parser = argparse.ArgumentParser(
-        prog="buncocedar.server", description=__doc__, formatter_class=argparse.RawDescriptionHelpFormatter
+        prog="bunco serve", description=__doc__, formatter_class=argparse.RawDescriptionHelpFormatter
     )
     parser.add_argument("index", metavar="INDEX")
     parser.add_argument("--create", action="store_true", help="make the index where there is none")
     parser.add_argument("--wait", metavar="SECONDS", type=float, default=10.0, help="how long to wait for who has it open")
     try:
-        return serve(parser.parse_args())
+        return serve(parser.parse_args(arguments))
     except (Error, OSError) as error:
         say(error)
         return STOPPED
-
-
-if __name__ == "__main__":
-    sys.exit(main())

@@ -20,10 +20,8 @@ import time
 from typing import NamedTuple, Optional
 from urllib.parse import quote, unquote_to_bytes
 
-import checkout  # noqa: F401
-
-from buncocedar import InUse
-from buncocedar.beside import is_at, lock
+from ..beside import is_at, lock
+from ..errors import InUse
 
 NAME_LIMIT = 64
 STEM_LIMIT = 58  # characters of a name before the end of a part, as `~p2`

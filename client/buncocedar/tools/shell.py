@@ -1,4 +1,3 @@
-#!/usr/bin/env python3
 """A prompt for all commands of an index.
 
 A line is a command of the program, as README.md has them; `help` prints them. `add NAME` alone asks for title and body, since
@@ -10,11 +9,10 @@ asked.
 import argparse
 import sys
 
-from importing import Index
-from prompt import Prompt
-from terminal import printable, quiet_end
-
-from buncocedar import Error, QueryFault, Refused
+from ..errors import Error, QueryFault, Refused
+from ..index import Index
+from ..terminal import printable, quiet_end
+from .prompt import Prompt
 
 HELP = """add NAME            stores a document: title and body are asked for
 delete NAME         takes a document out of all answers
@@ -110,14 +108,14 @@ def run(options, prompt):
     return status
 
 
-def main():
+def main(arguments=None):
     parser = argparse.ArgumentParser(
-        prog="examples/shell.py", description=__doc__, formatter_class=argparse.RawDescriptionHelpFormatter
+        prog="bunco shell", description=__doc__, formatter_class=argparse.RawDescriptionHelpFormatter
     )
     parser.add_argument("index", metavar="INDEX")
     parser.add_argument("--create", action="store_true", help="make the index where there is none")
     parser.add_argument("--wait", metavar="SECONDS", type=float, default=10.0, help="how long to wait for who has it open")
-    options = parser.parse_args()
+    options = parser.parse_args(arguments)
     # What a locale can't write ends no run, and another program gets the bytes of the replies.
     sys.stdout.reconfigure(**({"errors": "replace"} if sys.stdout.isatty() else {"encoding": "utf-8"}))
     try:
@@ -129,7 +127,3 @@ def main():
         print(f"shell: {error}", file=sys.stderr)
         return STOPPED
     return 0
-
-
-if __name__ == "__main__":
-    sys.exit(main())

@@ -1,4 +1,3 @@
-#!/usr/bin/env python3
 """Brings the text files of a folder into an index: those that are new or have changed.
 
 The name is the path below the folder, made to fit the rule on names; the title is the file's name; the body is its text. Files
@@ -14,10 +13,10 @@ import stat
 import sys
 import zlib
 
-from importing import BAD_USE, TEXT_LIMIT, Document, NoText, Text, Unfit, Unseen, arguments, bring_as
-from stamps import Place, stamps_path
-
-from buncocedar import server_path
+from ..document import TEXT_LIMIT, Document, NoText, Text, Unfit, Unseen
+from ..links import server_path
+from .bringing import BAD_USE, bring_as, parser_of
+from .stamps import Place, stamps_path
 
 BINARY_LOOK = 8_192  # bytes that are looked at for a NUL
 CHUNK = 1 << 20
@@ -71,7 +70,7 @@ def text_of(path, latin=False):
 
 
 def read(found):
-    """The text of a file that was brought in, as `find.py` shows it."""
+    """The text of a file that was brought in, as `bunco find` shows it."""
     return text_of(found.path, latin=True)
 
 
@@ -126,14 +125,14 @@ def files(top, without=frozenset(), selection=Selection(), latin=False):
         yield no_document(os.path.relpath(error.filename, top), Unseen(error.strerror))
 
 
-def main():
-    parser = arguments("folder", __doc__, ("FOLDER", "the folder of text files"))
+def main(arguments=None):
+    parser = parser_of("folder", __doc__, ("FOLDER", "the folder of text files"))
     parser.add_argument("--only", metavar="PATTERN", action="append", default=[], help="take only files of such names, as '*.txt'")
     parser.add_argument(
         "--skip", metavar="PATTERN", action="append", default=[], help=f"leave out such files and folders, besides {', '.join(SKIPPED)}"
     )
     parser.add_argument("--latin-1", action="store_true", help="read files that are no UTF-8 as Latin-1")
-    options = parser.parse_args()
+    options = parser.parse_args(arguments)
     if not os.path.isdir(options.folder):
         print(f"folder: {options.folder} is no folder", file=sys.stderr)
         return BAD_USE
@@ -141,7 +140,3 @@ def main():
     without = {os.path.realpath(options.index), stamps, f"{stamps}.new", server_path(options.index)}
     selection = Selection(options.only, options.skip)
     return bring_as("folder", options, os.path.realpath(options.folder), files(options.folder, without, selection, options.latin_1))
-
-
-if __name__ == "__main__":
-    sys.exit(main())

@@ -1,4 +1,3 @@
-#!/usr/bin/env python3
 """Checks an index: whether the program opens it, and reads each of its lists without finding damage.
 
 An opening tests the root, the journal, and the tables of the levels, and a search tests the lists of its words; a merge tests all
@@ -15,11 +14,12 @@ import shutil
 import sys
 import tempfile
 
-from importing import EVERY_DOCUMENT
-from indexfile import HALF, HEAD, SLOT, Unusable, locked, read_root
-from stamps import Records, part_name, stamps_path
-
-from buncocedar import Damaged, Ended, Error, Index
+from ..copying import locked
+from ..errors import Damaged, Ended, Error
+from ..fileformat import HALF, HEAD, SLOT, Unusable, read_root
+from ..imports.engine import EVERY_DOCUMENT
+from ..imports.stamps import Records, part_name, stamps_path
+from ..index import Index
 
 WHOLE, DAMAGED, UNCHECKED = 0, 1, 3
 ADVICE = 'what to do now stands in docs/GUIDE.md, under "After a damaged disk"'
@@ -106,12 +106,12 @@ def check_stamps(path, live):
     return WHOLE
 
 
-def main():
+def main(arguments=None):
     parser = argparse.ArgumentParser(
-        prog="examples/check.py", description=__doc__, formatter_class=argparse.RawDescriptionHelpFormatter
+        prog="bunco check", description=__doc__, formatter_class=argparse.RawDescriptionHelpFormatter
     )
     parser.add_argument("index", metavar="INDEX")
-    options = parser.parse_args()
+    options = parser.parse_args(arguments)
     try:
         return check(options.index)
     except Unusable as fault:
@@ -123,7 +123,3 @@ def main():
     except KeyboardInterrupt:
         return 130
     return UNCHECKED
-
-
-if __name__ == "__main__":
-    sys.exit(main())

@@ -1,4 +1,3 @@
-#!/usr/bin/env python3
 """Copies an index without its holes: to a new file, while nothing else uses the old one.
 
 A file keeps its greatest size, and after many joins more than half of it may be free room. NEW has what OLD's root names and
@@ -12,16 +11,17 @@ import argparse
 import os
 import sys
 
-from indexfile import Unusable, locked, put_copy
+from ..copying import locked, put_copy
+from ..fileformat import Unusable
 
 
-def main():
+def main(arguments=None):
     parser = argparse.ArgumentParser(
-        prog="examples/compact.py", description=__doc__, formatter_class=argparse.RawDescriptionHelpFormatter
+        prog="bunco compact", description=__doc__, formatter_class=argparse.RawDescriptionHelpFormatter
     )
     parser.add_argument("old", metavar="OLD", help="the index")
     parser.add_argument("new", metavar="NEW", help="the copy: no file has this name yet")
-    options = parser.parse_args()
+    options = parser.parse_args(arguments)
     try:
         with locked(options.old) as file:
             put_copy(file, options.old, options.new)
@@ -36,7 +36,3 @@ def main():
         return 130
     print(f"compact: {sizes[0]:,} bytes, and {sizes[1]:,} in {options.new}", file=sys.stderr)
     return 0
-
-
-if __name__ == "__main__":
-    sys.exit(main())

@@ -5,12 +5,10 @@ import os
 import re
 import tempfile
 
-import folder
-import mail
-import packages
-from importing import Text, Unfit
-from stamps import STEM_LIMIT, Records, part_of, stamps_path, stem_of
-from terminal import edited
+from ..document import Unfit
+from ..imports import folder, mail, packages
+from ..imports.stamps import STEM_LIMIT, Records, part_of, stamps_path, stem_of
+from ..terminal import edited
 
 READERS = {"folder": folder.read, "mail": mail.read, "packages": packages.read}
 

@@ -1,4 +1,3 @@
-#!/usr/bin/env python3
 """Brings Debian's package descriptions into an index, from `apt-cache dumpavail` or a file as /var/lib/dpkg/status.
 
 The name is the package's name, the title the description's first line, the body the rest of the description. A package that
@@ -8,8 +7,9 @@ stands in several files is one document, of the file that was read last. --prune
 import os
 import sys
 
-from importing import BAD_USE, Document, Text, Unfit, arguments, bring_as
-from stamps import Place
+from ..document import Document, Text, Unfit
+from .bringing import BAD_USE, bring_as, parser_of
+from .stamps import Place
 
 
 def stanzas(source):
@@ -58,19 +58,19 @@ def packages(source, path=None):
 
 
 def read(found):
-    """The description that stands in a piece of a file, as `find.py` shows it."""
+    """The description that stands in a piece of a file, as `bunco find` shows it."""
     with open(found.path, "rb") as file:
         file.seek(found.begin)
         stanza = next(stanzas(file.read(found.length).splitlines(True)), None)
     text = text_of(stanza[2]) if stanza else None
     if text is None:
-        raise Unfit("it has changed since it was brought in: run packages.py again")
+        raise Unfit("it has changed since it was brought in: run bunco packages again")
     return text
 
 
-def main():
-    parser = arguments("packages", __doc__, ("[FILE]", "a file of stanzas; without one they are read from standard input"))
-    options = parser.parse_args()
+def main(arguments=None):
+    parser = parser_of("packages", __doc__, ("[FILE]", "a file of stanzas; without one they are read from standard input"))
+    options = parser.parse_args(arguments)
     if options.file is None and sys.stdin.isatty():
         parser.print_usage(sys.stderr)
         return BAD_USE
@@ -83,7 +83,3 @@ def main():
     with source:
         # All files of descriptions are one source, since a package may stand in each.
         return bring_as("packages", options, "packages", packages(source, path), path or "")
-
-
-if __name__ == "__main__":
-    sys.exit(main())

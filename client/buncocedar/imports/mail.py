@@ -1,4 +1,3 @@
-#!/usr/bin/env python3
 """Brings the messages of a mail archive into an index: an mbox file, a Maildir folder, or one message.
 
 The name is the Message-ID, made to fit the rule on names; the title is the Subject; the body begins with lines `From: ..`,
@@ -21,9 +20,10 @@ import os
 import re
 import sys
 
-from importing import BAD_USE, STOPPED, TEXT_LIMIT, Document, NoText, Text, Unfit, Unseen, arguments, bring_as
-from stamps import Place, digest, name_of, numbered, part_of, place_of, stem_of
-from terminal import printable, quiet_end, write
+from ..document import TEXT_LIMIT, Document, NoText, Text, Unfit, Unseen
+from ..terminal import printable, quiet_end, write
+from .bringing import BAD_USE, STOPPED, bring_as, parser_of
+from .stamps import Place, digest, name_of, numbered, part_of, place_of, stem_of
 
 DATED = re.compile(
     rb"From .* (?:Mon|Tue|Wed|Thu|Fri|Sat|Sun)\b.{0,9}\b(?:Jan|Feb|Mar|Apr|May|Jun|Jul|Aug|Sep|Oct|Nov|Dec)\b.{0,24}\d:\d\d"
@@ -435,10 +435,10 @@ def raw_at(found):
 
 
 def read(found):
-    """The text of a message that was brought in, as `find.py` shows it."""
+    """The text of a message that was brought in, as `bunco find` shows it."""
     message = Message(raw_at(found))
     if not message.found:
-        raise Unfit("it has moved since it was brought in: run mail.py again")
+        raise Unfit("it has moved since it was brought in: run bunco mail again")
     return message.text()
 
 
@@ -478,11 +478,11 @@ def show(archive, name, as_it_stands):
     return 1
 
 
-def main():
-    parser = arguments("mail", __doc__, ("ARCHIVE", "an mbox file, a Maildir folder, or a file of one message"))
+def main(arguments=None):
+    parser = parser_of("mail", __doc__, ("ARCHIVE", "an mbox file, a Maildir folder, or a file of one message"))
     parser.add_argument("--show", action="store_true", help="print a message: the words are ARCHIVE NAME")
     parser.add_argument("--raw", action="store_true", help="print it as it stands in the archive")
-    options = parser.parse_args()
+    options = parser.parse_args(arguments)
     archive = options.index if options.show else options.archive
     if not os.path.exists(archive):
         print(f"mail: {archive}: there is none", file=sys.stderr)
@@ -494,7 +494,3 @@ def main():
             print(f"mail: {archive}: {error.strerror}", file=sys.stderr)
             return STOPPED
     return bring_as("mail", options, os.path.realpath(archive), documents(messages(archive)))
-
-
-if __name__ == "__main__":
-    sys.exit(main())

@@ -1,4 +1,3 @@
-#!/usr/bin/env python3
 """Finds documents: one query from the command line, or a prompt that takes one a line.
 
 Prints a line `NUMBER NAME` for each document, the newest first, and how many were found; with --top and at the prompt the best
@@ -19,12 +18,13 @@ import sys
 import tempfile
 from typing import NamedTuple
 
-from documents import Places, about, edit, shown_path, text_at, whole_lines
-from matching import Wanted
-from prompt import Prompt
-from terminal import NAME, PLACE, Paint, paged, printable, quiet_end, wants_colour
-
-from buncocedar import MOST_BEST, Error, Index, NotUtf8, Refused, UnknownCommand
+from ..errors import Error, NotUtf8, Refused, UnknownCommand
+from ..index import Index
+from ..replies import MOST_BEST
+from ..terminal import NAME, PLACE, Paint, paged, printable, quiet_end, wants_colour
+from .documents import Places, about, edit, shown_path, text_at, whole_lines
+from .matching import Wanted
+from .prompt import Prompt
 
 CONTEXT_COLUMNS = 100
 PROMPT_LIMIT = 20
@@ -398,7 +398,7 @@ def best_count(text):
 
 def words():
     parser = argparse.ArgumentParser(
-        prog="examples/find.py", description=__doc__, formatter_class=argparse.RawDescriptionHelpFormatter
+        prog="bunco find", description=__doc__, formatter_class=argparse.RawDescriptionHelpFormatter
     )
     parser.add_argument("index", metavar="INDEX")
     parser.add_argument("--wait", metavar="SECONDS", type=float, default=10.0, help="how long to wait for who has it open")
@@ -470,9 +470,9 @@ def ask(options, view):
     return status if all([view.edit(name) for name in view.chosen]) else 1
 
 
-def main():
+def main(arguments=None):
     parser = words()
-    options = parser.parse_args()
+    options = parser.parse_args(arguments)
     options.context = options.context or options.around > 0
     places = Places(options.index, options.source)
     if wrong_use(parser, options, places):
@@ -486,7 +486,3 @@ def main():
     except (Error, OSError) as error:
         say(error)
         return 3
-
-
-if __name__ == "__main__":
-    sys.exit(main())

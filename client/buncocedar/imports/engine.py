@@ -9,26 +9,22 @@ A document that is too long for a line goes in as several, its parts: `NAME`, `N
 with the last hundred words of the part before, so that a phrase over the border is found.
 """
 
-import argparse
-import contextlib
 import functools
 import os
-import re
-import signal
-import sys
-import tempfile
 import time
 from collections import deque
-from typing import Callable, NamedTuple, Optional
+from typing import NamedTuple, Optional
 
-import checkout  # noqa: F401
-from indexfile import HALF, LEVELS, Unusable, put_copy, read_root
-from stamps import (
+from ..document import TEXT_LIMIT, NoText, Unfit, Unseen
+from ..errors import Error, Full, Refused
+from ..fileformat import HALF, LEVELS, Unusable, level_count
+from ..lines import LINE_LIMIT
+from .log import several
+from .parts import parts_of, size
+from .stamps import (
     FRONT_LIMIT,
     Place,
-    Source,
     Stamp,
-    Stamps,
     below,
     digest,
     is_numbered,
@@ -37,67 +33,14 @@ from stamps import (
     part_name,
     part_of,
     place_of,
-    stamps_path,
     stem_of,
 )
 
-from buncocedar import LINE_LIMIT, Error, Full, Index, Refused, add_line
-from buncocedar.beside import PREFIX, making, remove_left
-from buncocedar.lines import TITLE_ROOM
-from buncocedar.texts import fitted, one_line
-
 EVERY_DOCUMENT = "NOT name:! OR name:!"
-TEXT_LIMIT = 33_554_432  # bytes of a text that are looked at
-OVERLAP = 100  # words of a part that the next one has too
 RECORD = 17  # bytes that a line takes more in the journal, at most
-MEMORY = "/dev/shm"
-BESIDE = "buncocedar-"  # how the name of a folder in memory begins, in which an index is made
-KEPT = "kept-buncocedar-"  # and of one in which an index stays that could not be put in its place
 
 # What goes into a stamp besides the document: another one, and all documents are made anew once.
 FORM = b"parts and fields\n"
-
-# Exit statuses, besides 0 and those of a signal.
-SOME_REFUSED = 1
-BAD_USE = 2
-STOPPED = 3
-
-
-class Text(NamedTuple):
-    """What of a document goes into its lines: the head into each. `beyond` is how many bytes of its text were not looked at."""
-
-    title: str
-    body: str
-    beyond: int = 0
-    head: str = ""
-
-
-class Document(NamedTuple):
-    """A document to be brought in. `load` is called only where it is new or has changed, and raises `Unfit` or `OSError`.
-
-    `place` is where it stands in its source, as `stamps.Place` spells it. `exact` says whether documents of one name and stamp
-    are the same: where it is false, as of the size and time of a file, they are where they stand at one place of one source.
-    `former` is the stamp that the scripts of before gave it, where that was another one.
-    """
-
-    wanted: str
-    stamp: bytes
-    load: Callable[[], Text]
-    place: str = ""
-    exact: bool = True
-    former: bytes = b""
-
-
-class Unfit(Exception):
-    """Why a document can't be brought in."""
-
-
-class NoText(Unfit):
-    """It is no text: it is passed over, and no fault."""
-
-
-class Unseen(Unfit):
-    """Why a part of the source could not be looked at: documents may stand there."""
 
 
 def content_of(text):
@@ -116,174 +59,6 @@ def has_content(document, content):
 def stands(top, place=Place()):
     """Whether this place of a source is still there. Its path was the real one: where a link leads on from it now, it has moved."""
     return os.path.realpath(top) == top and os.path.exists(below(top, place))
-
-
-def spaced(text):
-    """The text with one space for each run of blanks and line ends: more words fit in a line so."""
-    return re.sub("[ \t\r\n\f\v]+", " ", text).strip(" ")
-
-
-# --- Parts.
-
-
-def character_start(data, at):
-    """The start of the character that has this byte of UTF-8."""
-    while data[at] & 0xC0 == 0x80:
-        at -= 1
-    return at
-
-
-def overlap_start(data, least, end):
-    """Where the last words before a place begin: a hundred, or as many as stand behind `least`."""
-    at = end
-    for _ in range(OVERLAP):
-        blank = data.rfind(b" ", least, at)
-        if blank < 0:
-            break
-        at = blank
-    return at + 1 if at < end else character_start(data, least)
-
-
-def pieces(text, room):
-    """The text in pieces of at most so many bytes, cut at a blank where there is one, each with the last words before it."""
-    data = text.encode()
-    begin = 0
-    while len(data) - begin > room:
-        blank = data.rfind(b" ", begin + room // 2, begin + room + 1)
-        end = blank if blank > 0 else character_start(data, begin + room)
-        yield data[begin:end].decode()
-        begin = overlap_start(data, end - room // 4, end)
-    yield data[begin:].decode()
-
-
-def size(text):
-    """How many bytes of UTF-8 a text has."""
-    return len(text) if text.isascii() else len(text.encode())
-
-
-def joined(*texts):
-    return " ".join(filter(None, texts))
-
-
-def parts_of(name, text, whole):
-    """The parts of a document, each a (name, title, body). Raises `Unfit` where `whole` asks for one and it has more."""
-    title, body, head = (one_line(spaced(part)) for part in (text.title, text.body, text.head))
-    limit, room = LINE_LIMIT, TITLE_ROOM
-    length = len(f"add {name}\t{title}\t{joined(head, body)}".encode())
-    if length <= limit:
-        return [(name, title, joined(head, body))]
-    if whole:
-        raise Unfit(f"its line has {length:,} bytes where {limit:,} may be")
-    if len(head.encode()) > room:
-        head, body = "", joined(head, body)
-    short = fitted(title, room)
-    if short != title:
-        body = joined(title, body)
-    front = len(f"add \t{short}\t{head} ".encode()) + 64
-    found = enumerate(pieces(body, limit - front), 1)
-    return [(part_name(name, number), short, joined(head, piece)) for number, piece in found]
-
-
-# --- What is said.
-
-
-class Log:
-    """Messages on standard error, and a line of progress there where it is a terminal."""
-
-    def __init__(self, tool, file=None):
-        self.tool = tool
-        self.file = file or sys.stderr
-        self.shows = self.file.isatty()
-        self.shown = False
-        self.at = 0.0
-
-    def say(self, text):
-        self.clear()
-        print(f"{self.tool}: {text}", file=self.file, flush=True)
-
-    def clear(self):
-        if self.shown:
-            self.file.write("\r\x1b[K")
-            self.shown = False
-
-    def progress(self, text):
-        """Shows what this call answers, some times a second."""
-        now = time.monotonic()
-        if self.shows and now - self.at >= 0.2:
-            self.at = now
-            self.file.write(f"\r\x1b[K{text()}")
-            self.file.flush()
-            self.shown = True
-
-
-class Interrupted(BaseException):
-    """An interrupt while the import waits for its source."""
-
-
-class Interrupts:
-    """Interrupts while an import runs: the first asks it to end, the second ends the program, the third breaks all off."""
-
-    notes = {1: b"\nends when the replies under way have come; once more ends the program\n", 2: b"\nending the program\n"}
-
-    def __init__(self, index):
-        self.index = index
-        self.count = 0
-        self.signal = 0
-        self.waits = False
-
-    def __enter__(self):
-        self.before = {each: signal.signal(each, self.take) for each in (signal.SIGINT, signal.SIGTERM)}
-        return self
-
-    def __exit__(self, *what):
-        for each, handler in self.before.items():
-            signal.signal(each, handler)
-
-    def take(self, number, frame):
-        self.count += 1
-        self.signal = number
-        # Written past the buffer, which this may have interrupted.
-        try:
-            os.write(2, self.notes.get(self.count, b""))
-        except OSError:
-            pass
-        # One may come while this still runs for the one before.
-        if self.count == 2:
-            self.index.break_off()
-        elif self.count > 2:
-            raise KeyboardInterrupt
-        if self.waits:
-            # A read of the source would go on waiting.
-            self.waits = False
-            raise Interrupted
-
-    def each(self, documents):
-        """The documents of a source, up to an interrupt."""
-        documents = iter(documents)
-        while True:
-            document = self.next_of(documents)
-            if document is None:
-                break
-            yield document
-
-    def next_of(self, documents):
-        """The next document, None at the end of the source and at an interrupt."""
-        try:
-            self.waits = True
-            document = None if self.count else next(documents, None)
-            self.waits = False
-            return document
-        except Interrupted:
-            return None
-        finally:
-            self.waits = False
-
-
-def several(number, word="document"):
-    return f"{number:,} {word}" if number == 1 else f"{number:,} {word}s"
-
-
-# --- The import.
 
 
 class Sent(NamedTuple):
@@ -367,7 +142,7 @@ class Import:
         self.unread = 0
         self.stored_in_part = []
         self.bytes = 0
-        self.levels = Levels(level_count(index.path) + bool(self.live))
+        self.levels = Levels(levels_of(index.path) + bool(self.live))
         self.gone = []
         self.pruned = 0
         self.missing = {}  # of each archive that is not there how many documents came from it
@@ -790,151 +565,10 @@ class Levels:
         self.used += size + RECORD
 
 
-def level_count(path):
+def levels_of(path):
     """How many levels the file has, as far as it tells it."""
     try:
         with open(path, "rb") as file:
-            return len(read_root(file).levels)
-    except (OSError, Unusable):
+            return level_count(file)
+    except OSError:
         return 0
-
-
-def bring(tool, path, source, documents, options=Options(), fast=False):
-    """Brings the documents of a source into the index at the path, and answers the exit status."""
-    log = Log(tool)
-    try:
-        if path == "-":
-            return write_lines(log, documents, options.whole)
-        if fast and (os.path.islink(path) or os.path.exists(path) and os.path.getsize(path)):
-            log.say(f"{path} is there already, so it is added to where it stands")
-            fast = False
-        if fast:
-            return bring_beside(log, path, source, documents, options)
-        return bring_into(log, path, source, documents, options)
-    except (Error, OSError, Unusable) as error:
-        log.say(f"stopped: {error}" if path == "-" else error if str(error).startswith(path) else f"{path}: {error}")
-        return STOPPED
-    except KeyboardInterrupt:
-        log.say("broken off" if path == "-" else "broken off: run this again, and it goes on from here")
-        return 128 + signal.SIGINT
-
-
-def bring_into(log, path, source, documents, options):
-    with contextlib.suppress(OSError):
-        tell_left(log, os.path.dirname(os.path.abspath(path)), PREFIX)
-    with contextlib.ExitStack() as stack:
-        index = stack.enter_context(Index(path, create=True, patience=options.wait, on_wait=log.say))
-        # Behind a server several may have the index: one import at a time gives names, and writes stamps.
-        stamps = Stamps(stamps_path(path), options.wait, lambda why: log.say(f"{path}: {why}, and is waited for"))
-        stack.callback(stamps.close)
-        interrupts = stack.enter_context(Interrupts(index))
-        work = Import(index, stamps, source, options, log)
-        work.run(documents, interrupts)
-        work.report()
-    if work.interrupted:
-        return 128 + interrupts.signal
-    if work.end is not None or work.fault:
-        return STOPPED
-    return SOME_REFUSED if work.counts["refused"] else 0
-
-
-def bring_beside(log, path, source, documents, options):
-    """Makes the index in memory, where there are no syncs to wait for, and moves what came of it into place, without holes."""
-    # Whether anything can be made at the place is known before all of the source is read.
-    with making(os.path.dirname(os.path.abspath(path))):
-        pass
-    folder = memory_folder()
-    tell_left(log, folder, BESIDE)
-    with making(folder, BESIDE) as beside:
-        status = bring_into(log, beside, source, documents, options)
-        try:
-            with open(beside, "rb") as built:
-                with contextlib.suppress(FileNotFoundError):
-                    if not os.path.getsize(path):
-                        os.remove(path)
-                put_copy(built, beside, path)
-        except BaseException:
-            kept = keep(beside)
-            log.say(f"{path} could not be put in place; the index was made, and stands in {kept}: examples/compact.py copies it")
-            raise
-    return status
-
-
-def keep(beside):
-    """Moves an index and its stamps out of the folder that is taken away, and answers where it stands now."""
-    kept = tempfile.mkdtemp(prefix=KEPT, dir=os.path.dirname(os.path.dirname(beside)))
-    for path in (beside, stamps_path(beside)):
-        os.rename(path, os.path.join(kept, os.path.basename(path)))
-    return os.path.join(kept, os.path.basename(beside))
-
-
-def memory_folder():
-    """A folder in memory, or where there is none that of what lasts no longer than it is needed."""
-    return MEMORY if os.path.isdir(MEMORY) and os.access(MEMORY, os.W_OK) else tempfile.gettempdir()
-
-
-def tell_left(log, folder, prefix):
-    """Takes away what imports left here that were killed, and says so: nothing of it is in an index."""
-    for path in remove_left(folder, prefix):
-        log.say(f"{path} is taken away: an import that was killed has left it")
-
-
-def write_lines(log, documents, whole):
-    """Writes the `add` lines of the documents to standard output, in place of adding them."""
-    written = in_parts = passed_over = refused = 0
-    used = set()
-    numbers = {}  # of a wanted name the first number that may be free
-    for document in documents:
-        wanted = name_of(document.wanted)
-        while (name := numbered(wanted, numbers.setdefault(wanted, 1))) in used:
-            numbers[wanted] += 1
-        used.add(name)
-        try:
-            parts = parts_of(name, document.load(), whole)
-        except NoText:
-            passed_over += 1
-            continue
-        except Exception as error:
-            refused += 1
-            log.say(f"refused {ascii(document.wanted)}: {error}")
-            continue
-        try:
-            for part in parts:
-                sys.stdout.buffer.write(add_line(*part)[0])
-            sys.stdout.buffer.flush()
-        except OSError as error:
-            # What is still buffered goes nowhere, so that the end says nothing of it.
-            os.dup2(os.open(os.devnull, os.O_WRONLY), sys.stdout.fileno())
-            if isinstance(error, BrokenPipeError):
-                break
-            log.say(f"standard output could not be written: {error.strerror}")
-            return STOPPED
-        written += 1
-        in_parts += len(parts) > 1
-    said = [f"{several(written)} written", f"{in_parts:,} in parts", f"{passed_over:,} passed over", f"{refused:,} refused"]
-    log.say(", ".join(said))
-    return SOME_REFUSED if refused else 0
-
-
-def arguments(tool, describe, *names):
-    """A parser for the words of an importing script: the index first."""
-    parser = argparse.ArgumentParser(
-        prog=f"examples/{tool}.py", description=describe, formatter_class=argparse.RawDescriptionHelpFormatter
-    )
-    parser.add_argument("index", metavar="INDEX", help="made where there is none; - writes the add lines to standard output")
-    for name, about in names:
-        parser.add_argument(name.lower().strip("[]"), metavar=name.strip("[]"), nargs="?" if "[" in name else None, help=about)
-    parser.add_argument("--prune", action="store_true", help="delete what earlier runs brought in and is gone from the source")
-    parser.add_argument("--moved-from", metavar="OLD", help="where the source stood when it was brought in before")
-    parser.add_argument("--fast", action="store_true", help="make a new index in memory, and move it into place at the end")
-    parser.add_argument("--whole", action="store_true", help="refuse what is too long for a line, in place of parts")
-    parser.add_argument("--no-merge", action="store_true", help=f"do not join the levels when there are {LEVELS}")
-    parser.add_argument("--verbose", action="store_true", help="list what is passed over, since it is no text")
-    parser.add_argument("--wait", metavar="SECONDS", type=float, default=10.0, help="how long to wait for who has it open")
-    return parser
-
-
-def bring_as(tool, words, path, documents, file=""):
-    """Brings documents in as the words of a script say; the path is that of their source, and `file` as in `Options`."""
-    options = Options(words.whole, words.prune, not words.no_merge, words.verbose, words.wait, words.moved_from, file)
-    return bring(tool, words.index, Source(tool, path), documents, options, words.fast)

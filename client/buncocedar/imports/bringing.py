@@ -1,0 +1,171 @@
+"""A run of an import, as the words of a command say: into an index, into a new one by way of memory, or as lines to be added."""
+
+import argparse
+import contextlib
+import os
+import signal
+import sys
+import tempfile
+
+from ..beside import PREFIX, making, remove_left
+from ..copying import put_copy
+from ..document import NoText
+from ..errors import Error
+from ..fileformat import LEVELS, Unusable
+from ..index import Index
+from ..lines import add_line
+from .engine import Import, Options
+from .interrupts import Interrupts
+from .log import Log, several
+from .parts import parts_of
+from .stamps import Source, Stamps, name_of, numbered, stamps_path
+
+MEMORY = "/dev/shm"
+BESIDE = "buncocedar-"  # how the name of a folder in memory begins, in which an index is made
+KEPT = "kept-buncocedar-"  # and of one in which an index stays that could not be put in its place
+
+# Exit statuses, besides 0 and those of a signal.
+SOME_REFUSED = 1
+BAD_USE = 2
+STOPPED = 3
+
+
+def bring(tool, path, source, documents, options=Options(), fast=False):
+    """Brings the documents of a source into the index at the path, and answers the exit status."""
+    log = Log(tool)
+    try:
+        if path == "-":
+            return write_lines(log, documents, options.whole)
+        if fast and (os.path.islink(path) or os.path.exists(path) and os.path.getsize(path)):
+            log.say(f"{path} is there already, so it is added to where it stands")
+            fast = False
+        if fast:
+            return bring_beside(log, path, source, documents, options)
+        return bring_into(log, path, source, documents, options)
+    except (Error, OSError, Unusable) as error:
+        log.say(f"stopped: {error}" if path == "-" else error if str(error).startswith(path) else f"{path}: {error}")
+        return STOPPED
+    except KeyboardInterrupt:
+        log.say("broken off" if path == "-" else "broken off: run this again, and it goes on from here")
+        return 128 + signal.SIGINT
+
+
+def bring_into(log, path, source, documents, options):
+    with contextlib.suppress(OSError):
+        tell_left(log, os.path.dirname(os.path.abspath(path)), PREFIX)
+    with contextlib.ExitStack() as stack:
+        index = stack.enter_context(Index(path, create=True, patience=options.wait, on_wait=log.say))
+        # Behind a server several may have the index: one import at a time gives names, and writes stamps.
+        stamps = Stamps(stamps_path(path), options.wait, lambda why: log.say(f"{path}: {why}, and is waited for"))
+        stack.callback(stamps.close)
+        interrupts = stack.enter_context(Interrupts(index))
+        work = Import(index, stamps, source, options, log)
+        work.run(documents, interrupts)
+        work.report()
+    if work.interrupted:
+        return 128 + interrupts.signal
+    if work.end is not None or work.fault:
+        return STOPPED
+    return SOME_REFUSED if work.counts["refused"] else 0
+
+
+def bring_beside(log, path, source, documents, options):
+    """Makes the index in memory, where there are no syncs to wait for, and moves what came of it into place, without holes."""
+    # Whether anything can be made at the place is known before all of the source is read.
+    with making(os.path.dirname(os.path.abspath(path))):
+        pass
+    folder = memory_folder()
+    tell_left(log, folder, BESIDE)
+    with making(folder, BESIDE) as beside:
+        status = bring_into(log, beside, source, documents, options)
+        try:
+            with open(beside, "rb") as built:
+                with contextlib.suppress(FileNotFoundError):
+                    if not os.path.getsize(path):
+                        os.remove(path)
+                put_copy(built, beside, path)
+        except BaseException:
+            kept = keep(beside)
+            log.say(f"{path} could not be put in place; the index was made, and stands in {kept}: bunco compact copies it")
+            raise
+    return status
+
+
+def keep(beside):
+    """Moves an index and its stamps out of the folder that is taken away, and answers where it stands now."""
+    kept = tempfile.mkdtemp(prefix=KEPT, dir=os.path.dirname(os.path.dirname(beside)))
+    for path in (beside, stamps_path(beside)):
+        os.rename(path, os.path.join(kept, os.path.basename(path)))
+    return os.path.join(kept, os.path.basename(beside))
+
+
+def memory_folder():
+    """A folder in memory, or where there is none that of what lasts no longer than it is needed."""
+    return MEMORY if os.path.isdir(MEMORY) and os.access(MEMORY, os.W_OK) else tempfile.gettempdir()
+
+
+def tell_left(log, folder, prefix):
+    """Takes away what imports left here that were killed, and says so: nothing of it is in an index."""
+    for path in remove_left(folder, prefix):
+        log.say(f"{path} is taken away: an import that was killed has left it")
+
+
+def write_lines(log, documents, whole):
+    """Writes the `add` lines of the documents to standard output, in place of adding them."""
+    written = in_parts = passed_over = refused = 0
+    used = set()
+    numbers = {}  # of a wanted name the first number that may be free
+    for document in documents:
+        wanted = name_of(document.wanted)
+        while (name := numbered(wanted, numbers.setdefault(wanted, 1))) in used:
+            numbers[wanted] += 1
+        used.add(name)
+        try:
+            parts = parts_of(name, document.load(), whole)
+        except NoText:
+            passed_over += 1
+            continue
+        except Exception as error:
+            refused += 1
+            log.say(f"refused {ascii(document.wanted)}: {error}")
+            continue
+        try:
+            for part in parts:
+                sys.stdout.buffer.write(add_line(*part)[0])
+            sys.stdout.buffer.flush()
+        except OSError as error:
+            # What is still buffered goes nowhere, so that the end says nothing of it.
+            os.dup2(os.open(os.devnull, os.O_WRONLY), sys.stdout.fileno())
+            if isinstance(error, BrokenPipeError):
+                break
+            log.say(f"standard output could not be written: {error.strerror}")
+            return STOPPED
+        written += 1
+        in_parts += len(parts) > 1
+    said = [f"{several(written)} written", f"{in_parts:,} in parts", f"{passed_over:,} passed over", f"{refused:,} refused"]
+    log.say(", ".join(said))
+    return SOME_REFUSED if refused else 0
+
+
+def parser_of(tool, describe, *names):
+    """A parser for the words of an importing script: the index first."""
+    parser = argparse.ArgumentParser(
+        prog=f"bunco {tool}", description=describe, formatter_class=argparse.RawDescriptionHelpFormatter
+    )
+    parser.add_argument("index", metavar="INDEX", help="made where there is none; - writes the add lines to standard output")
+    for name, about in names:
+        parser.add_argument(name.lower().strip("[]"), metavar=name.strip("[]"), nargs="?" if "[" in name else None, help=about)
+    parser.add_argument("--prune", action="store_true", help="delete what earlier runs brought in and is gone from the source")
+    parser.add_argument("--moved-from", metavar="OLD", help="where the source stood when it was brought in before")
+    parser.add_argument("--fast", action="store_true", help="make a new index in memory, and move it into place at the end")
+    parser.add_argument("--whole", action="store_true", help="refuse what is too long for a line, in place of parts")
+    parser.add_argument("--no-merge", action="store_true", help=f"do not join the levels when there are {LEVELS}")
+    parser.add_argument("--verbose", action="store_true", help="list what is passed over, since it is no text")
+    parser.add_argument("--wait", metavar="SECONDS", type=float, default=10.0, help="how long to wait for who has it open")
+    return parser
+
+
+def bring_as(tool, words, path, documents, file=""):
+    """Brings documents in as the words of a script say; the path is that of their source, and `file` as in `Options`."""
+    options = Options(words.whole, words.prune, not words.no_merge, words.verbose, words.wait, words.moved_from, file)
+    return bring(tool, words.index, Source(tool, path), documents, options, words.fast)

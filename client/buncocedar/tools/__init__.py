@@ -1,0 +1,1 @@
+"""The commands that ask and look after an index, and their parts."""
