@@ -39,7 +39,7 @@ sys.path[:0] = [os.path.join(TOP, "tests"), os.path.join(TOP, "client")]
 
 from buncocedar.fileformat import LEVELS
 from buncocedar.imports.engine import Levels
-from reading import HEAD, read_roots
+from model.reading import HEAD, read_roots
 
 LEAST = 400  # bytes of a document that is cut from a file
 WORD = "version"

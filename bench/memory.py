@@ -21,7 +21,7 @@ import tempfile
 TOP = os.path.dirname(os.path.dirname(os.path.abspath(__file__)))
 sys.path.insert(0, os.path.join(TOP, "tests"))
 
-from answers import Machine
+from model.answers import Machine
 
 REFUSING = r"""
 #define _GNU_SOURCE

@@ -26,7 +26,7 @@ import tempfile
 TOP = os.path.dirname(os.path.dirname(os.path.abspath(__file__)))
 sys.path.insert(0, os.path.join(TOP, "tests"))
 
-import segments
+from model import segments
 from rounds import speed
 
 PLAIN = r"""

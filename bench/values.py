@@ -23,10 +23,10 @@ import time
 TOP = os.path.dirname(os.path.dirname(os.path.abspath(__file__)))
 sys.path.insert(0, os.path.join(TOP, "tests"))
 
-import segments
-from answers import NUMBER, NUMBERS, RUN
+from model import segments
+from model.answers import NUMBER, NUMBERS, RUN
 from peer import table_of, texts_of
-from reading import read_roots
+from model.reading import read_roots
 from rounds import spent
 
 VALUES = [(1990, 1999), (0, NUMBERS - 1), (7, 7), (1, NUMBERS - 2)]

@@ -9,7 +9,6 @@ Without --program the tests of the real program are left out, and that is said.
 import contextlib
 import copy
 import datetime
-import faulthandler
 import gc
 import io
 import json
@@ -22,32 +21,21 @@ import subprocess
 import sys
 import tempfile
 import threading
-import time
 import traceback
 import unittest
 import unittest.mock
 import warnings
 
-TOP = os.path.dirname(os.path.dirname(os.path.abspath(__file__)))
-sys.path.insert(0, os.path.join(TOP, "client"))
+# It lets the others find the client of the checkout.
+from support import BUNCO, CLIENT, PATIENCE, run_tests, until  # isort: skip
 
-import buncocedar  # noqa: E402
-import fake  # noqa: E402
-from buncocedar import Index, beside, errors, holders, making, texts  # noqa: E402
-from buncocedar.exchange import LINES_UNDER_WAY  # noqa: E402
+import buncocedar
+import fake
+from buncocedar import Index, beside, errors, holders, making, texts
+from buncocedar.exchange import LINES_UNDER_WAY
 
 FAKE = fake.installed()
 PROGRAM = None
-PATIENCE = 300  # seconds after which what should have come counts as missing
-
-
-def until(done):
-    """Waits until this is so. The tests rest on what happened, and never on how long it took."""
-    end = time.monotonic() + PATIENCE
-    while not done():
-        if time.monotonic() > end:
-            raise AssertionError("it does not come")
-        time.sleep(0.01)
 
 
 class Case(unittest.TestCase):
@@ -516,7 +504,7 @@ class Traps(Case):
             "os.wait()\n"
             "index.add('b', '', '')\n"
         )
-        words = [sys.executable, "-W", "always", "-c", script, os.path.join(TOP, "client"), self.path, FAKE]
+        words = [sys.executable, "-W", "always", "-c", script, CLIENT, self.path, FAKE]
         done = subprocess.run(words, capture_output=True, timeout=PATIENCE)
         self.assertEqual((done.returncode, done.stderr.count(b"was not closed")), (0, 1), done.stderr)
         with self.fake() as index:
@@ -805,7 +793,7 @@ class UnderWay(Case):
             "    print([reply.answered for reply in replies], index.under_way())\n"
         )
         process = subprocess.Popen(
-            [sys.executable, "-c", script, os.path.join(TOP, "client"), self.path, FAKE],
+            [sys.executable, "-c", script, CLIENT, self.path, FAKE],
             env={**os.environ, "FAKE": json.dumps({"silent": 3, "mark": self.mark})},
             stdout=subprocess.PIPE,
         )
@@ -828,7 +816,7 @@ class UnderWay(Case):
             "Index(sys.argv[2], program=sys.argv[3]).add('b', '', '')\n"
         )
         process = subprocess.Popen(
-            [sys.executable, "-c", script, os.path.join(TOP, "client"), self.path, FAKE],
+            [sys.executable, "-c", script, CLIENT, self.path, FAKE],
             env={**os.environ, "FAKE": json.dumps({"silent": 1, "mark": self.mark})},
         )
         until(lambda: os.path.exists(self.mark))
@@ -917,7 +905,7 @@ class Waiting(Case):
         with self.fake():
             for script, words in [("find", ["x"]), ("folder", [self.folder.name]), ("shell", [])]:
                 done = subprocess.run(
-                    [sys.executable, os.path.join(TOP, "bunco"), script, self.path, *words, "--wait", "0.8"],
+                    [sys.executable, BUNCO, script, self.path, *words, "--wait", "0.8"],
                     env={**os.environ, "BUNCOCEDAR_PROGRAM": FAKE},
                     stdin=subprocess.DEVNULL,
                     capture_output=True,
@@ -1168,17 +1156,10 @@ class RealProgram(Case):
             self.assertEqual(rows, [(i + 1, f"n{i}") for i in range(len(rows))])
 
 
-def main():
+def take_program(path):
     global PROGRAM
-    faulthandler.dump_traceback_later(10 * PATIENCE, exit=True)
-    words = sys.argv[1:]
-    if words[:1] == ["--program"]:
-        PROGRAM = os.path.abspath(words[1])
-        words = words[2:]
-    else:
-        print("client: without the real program", file=sys.stderr)
-    unittest.main(argv=[sys.argv[0], *words])
+    PROGRAM = path
 
 
 if __name__ == "__main__":
-    main()
+    run_tests("client", take_program)

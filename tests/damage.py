@@ -25,11 +25,12 @@ import tempfile
 import time
 from typing import NamedTuple
 
-from answers import NUMBERS, Document, Machine, meets, spelled
-from held import Held, empty_file, slot_bytes
-from levels import entry_of_add, entry_of_delete, entry_of_replace, journal, level
-from reading import HALF, HALVES, HEAD, LEVELS, NOTHING, OLD_PAYLOAD, SLOT, SLOTS, TEXTS, Add, Delete, Extent, NoIndex, Root, opened
-from segments import SMALL, Broken, damaged, segment, stream
+from model.answers import NUMBERS, Document, Machine, meets, spelled
+from model.faults import SMALL, damaged
+from model.held import Held, empty_file, slot_bytes
+from model.reading import HALF, HALVES, HEAD, LEVELS, NOTHING, OLD_PAYLOAD, SLOT, SLOTS, TEXTS, Add, Delete, Extent, NoIndex, Root, opened
+from model.segments import Broken, segment, stream
+from model.writing import entry_of_add, entry_of_delete, entry_of_replace, journal, level
 
 LIMIT = 10  # seconds that a run may take
 MEMORY = 2**30  # bytes that it may have where a file is longer

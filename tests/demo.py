@@ -16,8 +16,8 @@ import subprocess
 import sys
 import tempfile
 
-from answers import Machine, spelled
-from held import Held, empty_file
+from model.answers import Machine, spelled
+from model.held import Held, empty_file
 
 USAGE = "alta: usage: alta_cli PATH init | run | demo N\n"
 EVEN = ("word", "even")

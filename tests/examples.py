@@ -7,8 +7,7 @@ import subprocess
 import sys
 import tempfile
 
-TOP = os.path.dirname(os.path.dirname(os.path.abspath(__file__)))
-PATIENCE = 120
+from support import CLIENT, PATIENCE, TOP
 
 # Each program, what it is given on its command line behind the index, and what it prints on either stream.
 RUNS = [
@@ -41,7 +40,7 @@ def printed(script, words, folder, program):
     done = subprocess.run(
         [sys.executable, os.path.join(TOP, "examples", script), script[:-3] + ".alta", *words],
         cwd=folder,
-        env={**os.environ, "BUNCOCEDAR_PROGRAM": program, "PYTHONPATH": os.path.join(TOP, "client")},
+        env={**os.environ, "BUNCOCEDAR_PROGRAM": program, "PYTHONPATH": CLIENT},
         stdin=subprocess.DEVNULL,
         stdout=subprocess.PIPE,
         stderr=subprocess.STDOUT,

@@ -25,7 +25,6 @@ import fcntl
 import json
 import os
 import shutil
-import signal
 import sys
 import tempfile
 import time
@@ -121,67 +120,101 @@ class Store:
             word, blank, rest = line.decode().partition(" ")
         except UnicodeDecodeError:
             return ["! not UTF-8"]
-        if word in ("flush", "merge", "step", "open", "fetch", "close", "top", "dump") and DO.get("old"):
+        call = self.calls.get(word)
+        if call is None or DO.get("old") and word in self.newer:
             return ["! unknown command"]
-        if word == "add":
-            before = self.documents.get(rest.split("\t")[0])
-            if self.stored >= DO.get("room", 1 << 32):
-                end(8)
-            self.commit(line)
-            return [f"replaced {before[0]} by {self.stored}" if before else f"added {self.stored}"]
-        if word == "delete":
-            if rest not in self.documents:
-                return ["! no such document"]
-            number = self.documents[rest][0]
-            self.commit(line)
-            return [f"deleted {number}"]
-        if word == "top":
-            count, _, query = rest.partition(" ")
-            if not (count.isdecimal() and len(count) < 5 and 1 <= int(count) <= 1000):
-                return ["! bad line"]
-            if not query.startswith("fault "):
-                return self.best(int(count), query) + [f"found {len(self.found(query))}"]
-            rest = query
-        if word == "dump" and blank:
+        return call(self, rest, blank, line)
+
+    def add(self, rest, blank, line):
+        before = self.documents.get(rest.split("\t")[0])
+        if self.stored >= DO.get("room", 1 << 32):
+            end(8)
+        self.commit(line)
+        return [f"replaced {before[0]} by {self.stored}" if before else f"added {self.stored}"]
+
+    def delete(self, name, blank, line):
+        if name not in self.documents:
+            return ["! no such document"]
+        number = self.documents[name][0]
+        self.commit(line)
+        return [f"deleted {number}"]
+
+    def search(self, query, blank, line):
+        rows = self.found(query)
+        return fault_of(query) or rows + [f"found {len(rows)}"]
+
+    def top(self, rest, blank, line):
+        count, _, query = rest.partition(" ")
+        if not (count.isdecimal() and len(count) < 5 and 1 <= int(count) <= 1000):
             return ["! bad line"]
-        if word == "dump":
-            documents = sorted((number, name, title, body) for name, (number, title, body) in self.documents.items())
-            lines = [f"add {name}\t{' '.join(title)}\t{' '.join(body)}" for _, name, title, body in documents]
-            return lines + [f"dumped {len(lines)}"]
-        if word in ("search", "count", "open", "explain", "top"):
-            if rest.startswith("fault "):
-                _, place, cause = rest.split(" ")[:3]
-                return [f"! query {place} {cause}"]
-            rows = self.found(rest)
-            if word == "search":
-                return rows + [f"found {len(rows)}"]
-            if word == "count":
-                return [f"found {len(rows)}"]
-            if word == "explain":
-                return [f'"{rest}"', f"found D W{rest}", "  x1 <= x0"]
-            number = min(set(range(1, 65)) - set(self.cursors), default=None)
-            if number is None:
-                return ["! too many cursors"]
-            self.cursors[number] = rows
-            return [f"cursor {number}"]
-        if word == "fetch":
-            number, count = map(int, rest.split())
-            if number not in self.cursors:
-                return ["! no such cursor"]
-            rows = self.cursors[number]
-            self.cursors[number] = rows[count:]
-            return rows[:count] + ["more" if rows[count:] else "end"]
-        if word == "close":
-            if int(rest) not in self.cursors:
-                return ["! no such cursor"]
-            del self.cursors[int(rest)]
-            return [f"closed {rest}"]
-        if word in ("flush", "merge", "step"):
-            return ["ok"]
-        if word == "stats":
-            words = sum(len(title) + len(body) for _, title, body in self.documents.values())
-            return [f"documents {len(self.documents)} words {words} next {self.stored + 1}"]
-        return ["! unknown command"]
+        return fault_of(query) or self.best(int(count), query) + [f"found {len(self.found(query))}"]
+
+    def count(self, query, blank, line):
+        return fault_of(query) or [f"found {len(self.found(query))}"]
+
+    def explain(self, query, blank, line):
+        return fault_of(query) or [f'"{query}"', f"found D W{query}", "  x1 <= x0"]
+
+    def open(self, query, blank, line):
+        number = min(set(range(1, 65)) - set(self.cursors), default=None)
+        if fault_of(query) or number is None:
+            return fault_of(query) or ["! too many cursors"]
+        self.cursors[number] = self.found(query)
+        return [f"cursor {number}"]
+
+    def fetch(self, rest, blank, line):
+        number, count = map(int, rest.split())
+        if number not in self.cursors:
+            return ["! no such cursor"]
+        rows = self.cursors[number]
+        self.cursors[number] = rows[count:]
+        return rows[:count] + ["more" if rows[count:] else "end"]
+
+    def close(self, number, blank, line):
+        if int(number) not in self.cursors:
+            return ["! no such cursor"]
+        del self.cursors[int(number)]
+        return [f"closed {number}"]
+
+    def dump(self, rest, blank, line):
+        if blank:
+            return ["! bad line"]
+        documents = sorted((number, name, title, body) for name, (number, title, body) in self.documents.items())
+        lines = [f"add {name}\t{' '.join(title)}\t{' '.join(body)}" for _, name, title, body in documents]
+        return lines + [f"dumped {len(lines)}"]
+
+    def work(self, rest, blank, line):
+        return ["ok"]
+
+    def stats(self, rest, blank, line):
+        words = sum(len(title) + len(body) for _, title, body in self.documents.values())
+        return [f"documents {len(self.documents)} words {words} next {self.stored + 1}"]
+
+    calls = {
+        "add": add,
+        "delete": delete,
+        "search": search,
+        "top": top,
+        "count": count,
+        "explain": explain,
+        "open": open,
+        "fetch": fetch,
+        "close": close,
+        "dump": dump,
+        "flush": work,
+        "merge": work,
+        "step": work,
+        "stats": stats,
+    }
+    newer = ("flush", "merge", "step", "open", "fetch", "close", "top", "dump")
+
+
+def fault_of(query):
+    """The reply to a query that asks for a fault, as `fault 8 Paren ..`; none to any other."""
+    if not query.startswith("fault "):
+        return []
+    _, place, cause = query.split(" ")[:3]
+    return [f"! query {place} {cause}"]
 
 
 def give(text):

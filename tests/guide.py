@@ -18,9 +18,9 @@ import sys
 import tempfile
 from typing import NamedTuple
 
-TOP = os.path.dirname(os.path.dirname(os.path.abspath(__file__)))
+from support import PATIENCE, TOP
+
 SHARED = ("bunco", "client", "docs", "examples", "tests")  # what of the repository the commands name
-PATIENCE = 300
 
 MAILBOX = """From ann@example.org Mon Jan  1 09:00:00 2024
 Message-ID: <first@example.org>

@@ -10,7 +10,6 @@ import base64
 import collections
 import contextlib
 import email.message
-import faulthandler
 import glob
 import gzip
 import io
@@ -29,32 +28,21 @@ import time
 import unittest
 from unittest import mock
 
-import fake
+# It lets the others find the client of the checkout.
+from support import BUNCO, PATIENCE, run_tests, until  # isort: skip
 
-TOP = os.path.dirname(os.path.dirname(os.path.abspath(__file__)))
+import fake
+from buncocedar import LINE_LIMIT, Index, terminal
+from buncocedar.document import Document, NoText, Text, Unseen
+from buncocedar.imports import bringing, engine, folder, mail, packages, stamps
+from buncocedar.imports.interrupts import Interrupts
+from buncocedar.imports.log import Log
+from buncocedar.imports.parts import OVERLAP, parts_of, spaced
+from buncocedar.imports.stamps import name_of
+from buncocedar.tools import find, matching, prompt
+
 FAKE = fake.installed()
 PROGRAM = None
-PATIENCE = 300
-
-sys.path.insert(0, os.path.join(TOP, "client"))
-
-from buncocedar import LINE_LIMIT, Index, terminal  # noqa: E402
-from buncocedar.document import Document, NoText, Text, Unseen  # noqa: E402
-from buncocedar.imports import bringing, engine, folder, mail, packages, stamps  # noqa: E402
-from buncocedar.imports.interrupts import Interrupts  # noqa: E402
-from buncocedar.imports.log import Log  # noqa: E402
-from buncocedar.imports.parts import OVERLAP, parts_of, spaced  # noqa: E402
-from buncocedar.imports.stamps import name_of  # noqa: E402
-from buncocedar.tools import find, matching, prompt  # noqa: E402
-
-
-def until(done):
-    """Waits until this is so. The tests rest on what happened, and never on how long it took."""
-    end = time.monotonic() + PATIENCE
-    while not done():
-        if time.monotonic() > end:
-            raise AssertionError("it does not come")
-        time.sleep(0.01)
 
 
 def read_all(terminal):
@@ -115,7 +103,7 @@ class Case(unittest.TestCase):
         environment = {**os.environ, "BUNCOCEDAR_PROGRAM": self.program, "FAKE": json.dumps(do or {})}
         options = {"stdin": subprocess.DEVNULL, "stdout": subprocess.PIPE, "stderr": subprocess.PIPE, **options}
         # Without what is installed beside Python, which the scripts do without.
-        command = [sys.executable, "-S", os.path.join(TOP, "bunco"), script, *words]
+        command = [sys.executable, "-S", BUNCO, script, *words]
         return subprocess.Popen(command, env=environment, text=True, errors="replace", **options)
 
     def run_script(self, script, *words, do=None, expect=0, **options):
@@ -848,7 +836,7 @@ class Sources(Case):
         self.note("notes/a", "of a file")
         self.documents()
         with mock.patch.dict(os.environ, {"BUNCOCEDAR_PROGRAM": FAKE}):
-            server = subprocess.Popen([sys.executable, os.path.join(TOP, "bunco"), "serve", self.path], stderr=subprocess.PIPE)
+            server = subprocess.Popen([sys.executable, BUNCO, "serve", self.path], stderr=subprocess.PIPE)
         self.addCleanup(server.wait)
         self.addCleanup(server.kill)
         self.addCleanup(server.stderr.close)
@@ -1771,17 +1759,10 @@ class RealProgram(Case):
         self.assertEqual(len(self.found("letter")), 200)
 
 
-def main():
+def take_program(path):
     global PROGRAM
-    faulthandler.dump_traceback_later(10 * PATIENCE, exit=True)
-    words = sys.argv[1:]
-    if words[:1] == ["--program"]:
-        PROGRAM = os.path.abspath(words[1])
-        words = words[2:]
-    else:
-        print("imports: without the real program", file=sys.stderr)
-    unittest.main(argv=[sys.argv[0], *words])
+    PROGRAM = path
 
 
 if __name__ == "__main__":
-    main()
+    run_tests("imports", take_program)

@@ -21,9 +21,9 @@ import threading
 import time
 from typing import NamedTuple
 
-from answers import Machine, spelled
-from reading import NoIndex, opened
-from segments import Broken
+from model.answers import Machine, spelled
+from model.reading import NoIndex, opened
+from model.segments import Broken
 
 WORDS = ["red", "fox", "quick", "brown", "dog", "lazy", "over", "jumps"]
 FOX = ("word", "fox")

@@ -13,11 +13,10 @@ import threading
 import time
 import unittest
 
-TOP = os.path.dirname(os.path.dirname(os.path.abspath(__file__)))
-CLIENT = os.path.join(TOP, "client")
-sys.path.insert(0, CLIENT)
+# It lets the others find the client of the checkout.
+from support import CLIENT  # isort: skip
 
-from buncocedar import DiskFault, Index, InUse  # noqa: E402
+from buncocedar import DiskFault, Index, InUse
 
 PROGRAM = None
 PATIENCE = 60  # seconds after which what should have come counts as missing

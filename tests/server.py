@@ -7,7 +7,6 @@ Without --program the tests of the real program are left out, and that is said.
 """
 
 import contextlib
-import faulthandler
 import json
 import os
 import random
@@ -22,29 +21,18 @@ import time
 import unittest
 import unittest.mock
 
-TOP = os.path.dirname(os.path.dirname(os.path.abspath(__file__)))
-sys.path.insert(0, os.path.join(TOP, "client"))
+# It lets the others find the client of the checkout.
+from support import BUNCO, PATIENCE, run_tests, until  # isort: skip
 
-import buncocedar  # noqa: E402
-import fake  # noqa: E402
-from buncocedar import Index  # noqa: E402
-from buncocedar.beside import give_rights  # noqa: E402
-from buncocedar.fileformat import HEAD, level_count  # noqa: E402
-from buncocedar.server import IDLE_SECONDS, LEVELS_KEPT, LINES_AHEAD, Server, Stopped, batches  # noqa: E402
+import buncocedar
+import fake
+from buncocedar import Index
+from buncocedar.beside import give_rights
+from buncocedar.fileformat import HEAD, level_count
+from buncocedar.server import IDLE_SECONDS, LEVELS_KEPT, LINES_AHEAD, Server, Stopped, batches
 
 FAKE = fake.installed()
-PROGRAM = None
 MEMORY = "/dev/shm" if os.access("/dev/shm", os.W_OK) else None  # where a sync takes no time
-PATIENCE = 120  # seconds after which what should have come counts as missing
-
-
-def until(done):
-    """Waits until this is so. The tests rest on what happened, and never on how long it took."""
-    end = time.monotonic() + PATIENCE
-    while not done():
-        if time.monotonic() > end:
-            raise AssertionError("it does not come")
-        time.sleep(0.01)
 
 
 class Case(unittest.TestCase):
@@ -61,7 +49,7 @@ class Case(unittest.TestCase):
 
     def serve(self, files=None, **do):
         """A server of the index that listens, and may have no more files than this open at a time."""
-        words = [sys.executable, os.path.join(TOP, "bunco"), "serve", self.path, "--create"]
+        words = [sys.executable, BUNCO, "serve", self.path, "--create"]
         limited = ["sh", "-c", f'ulimit -n {files} && exec "$@"', "sh"] if files else []
         server = subprocess.Popen(
             limited + words,
@@ -256,7 +244,7 @@ class Lines(Case):
         words = [self.folder]
         for script, arguments, status in [("folder", words, 0), ("find", ["fox"], 0), ("find", ["dog"], 1)]:
             done = subprocess.run(
-                [sys.executable, os.path.join(TOP, "bunco"), script, self.path, *arguments],
+                [sys.executable, BUNCO, script, self.path, *arguments],
                 env={**os.environ, "BUNCOCEDAR_PROGRAM": "/nonexistent"},
                 capture_output=True,
                 timeout=PATIENCE,
@@ -398,7 +386,7 @@ class Ends(Case):
             pass
         with open(self.socket, "w") as file:
             file.write("my notes\n")
-        words = [sys.executable, os.path.join(TOP, "bunco"), "serve"]
+        words = [sys.executable, BUNCO, "serve"]
         environment = {**os.environ, "BUNCOCEDAR_PROGRAM": self.program}
 
         def refused(*more):
@@ -610,16 +598,9 @@ class TogetherReal(Together, Case):
                 self.assertEqual(file.readline(), reply + b"\n", line)
 
 
-def main():
-    faulthandler.dump_traceback_later(10 * PATIENCE, exit=True)
-    words = sys.argv[1:]
-    if words[:1] == ["--program"]:
-        TogetherReal.program = os.path.abspath(words[1])
-        words = words[2:]
-    else:
-        print("server: without the real program", file=sys.stderr)
-    unittest.main(argv=[sys.argv[0], *words])
+def take_program(path):
+    TogetherReal.program = path
 
 
 if __name__ == "__main__":
-    main()
+    run_tests("server", take_program)

@@ -16,11 +16,9 @@ import time
 import unittest
 
 import fake
+from support import BUNCO, PATIENCE, run_tests
 
-TOP = os.path.dirname(os.path.dirname(os.path.abspath(__file__)))
-BUNCO = os.path.join(TOP, "bunco")
-PROGRAM = None
-PATIENCE = 300  # seconds after which what should have come counts as missing
+PROGRAM = fake.installed()
 
 
 class Terminal:
@@ -212,17 +210,10 @@ class BehindAPipe(Case):
         self.assertEqual((done.returncode, done.stdout, done.stderr), (0, b"", b""))
 
 
-def main():
+def take_program(path):
     global PROGRAM
-    words = sys.argv[1:]
-    if words[:1] == ["--program"]:
-        PROGRAM = os.path.abspath(words[1])
-        words = words[2:]
-    else:
-        PROGRAM = fake.installed()
-        print("shell: without the real program", file=sys.stderr)
-    unittest.main(argv=[sys.argv[0], *words])
+    PROGRAM = path
 
 
 if __name__ == "__main__":
-    main()
+    run_tests("shell", take_program)

@@ -1,10 +1,10 @@
 #!/usr/bin/env python3
-"""Tests of `bunco compact` and `bunco check` over the real program, with indexes that tests/levels.py spells.
+"""Tests of `bunco compact` and `bunco check` over the real program, with indexes that tests/model spells.
 
 usage: tests/upkeep.py [--program PATH] [--rounds N] [--seed N]
 
 Each round spells an index with levels, deleted documents and free room between them. Its copy has to have the same root with its
-extents one behind the other, by the reading of tests/reading.py, the same half of the journal, and no byte more; the program
+extents one behind the other, by the reading of tests/model/reading.py, the same half of the journal, and no byte more; the program
 answers the same lines over both, through a merge and a new start. What breaks a rule on the root, is locked, or would write
 over a file is refused, and nothing is written. Then bytes are broken: the check finds what the program finds, and changes nothing.
 Ends with status 0 where all of that holds.
@@ -21,12 +21,11 @@ import sys
 import tempfile
 import time
 
-import levels
-import reading
-from segments import Broken, read_head, read_terms
+from model import reading
+from model.changes import asking, made, split
+from model.segments import Broken, read_head, read_terms
+from support import BUNCO, PATIENCE, TOP, answered
 
-TOP = os.path.dirname(os.path.dirname(os.path.abspath(__file__)))
-PATIENCE = 120
 
 
 def fail(message):
@@ -61,7 +60,7 @@ class Scripts:
 
     def start(self, script, *words):
         return subprocess.Popen(
-            [sys.executable, "-S", os.path.join(TOP, "bunco"), script, *words],
+            [sys.executable, "-S", BUNCO, script, *words],
             env={**os.environ, "BUNCOCEDAR_PROGRAM": self.program},
             stdin=subprocess.DEVNULL,
             stdout=subprocess.PIPE,
@@ -100,8 +99,8 @@ def same_index(old, new):
 
 def copies(scripts, chance):
     """An index that is spelled, its copy, and the same replies over both."""
-    changes = levels.made(chance, 40)
-    content, _, _ = levels.split(chance, changes, chance.randrange(20, len(changes) + 1))
+    changes = made(chance, 40)
+    content, _, _ = split(chance, changes, chance.randrange(20, len(changes) + 1))
     old, new = put(scripts.at("old.alta"), content), scripts.at("new.alta")
     put(scripts.at("old.alta.stamps"), b"some stamps\n")
     status, said = scripts.run("compact", old, new)
@@ -109,14 +108,14 @@ def copies(scripts, chance):
     expect(contents(old) == content, "the index was changed")
     expect(contents(new + ".stamps") == b"some stamps\n", "the stamps were not copied")
     same_index(content, contents(new))
-    for lines in (levels.asking(7), ["add new\tred\tfox", "step 5", *levels.asking(5)], ["merge", *levels.asking(3)], levels.asking(9)):
-        over_old, over_new = (levels.answered(scripts.program, path, lines) for path in (old, new))
+    for lines in (asking(7), ["add new\tred\tfox", "step 5", *asking(5)], ["merge", *asking(3)], asking(9)):
+        over_old, over_new = (answered(scripts.program, path, lines) for path in (old, new))
         expect(over_old == over_new, "the copy answers something else")
     # What the merge has left free goes.
     os.remove(new)
     expect(scripts.run("compact", old, new)[0] == 0, "the merged index was not copied")
     same_index(contents(old), contents(new))
-    expect(levels.answered(scripts.program, old, levels.asking(4)) == levels.answered(scripts.program, new, levels.asking(4)), "merged")
+    expect(answered(scripts.program, old, asking(4)) == answered(scripts.program, new, asking(4)), "merged")
     for path in (old, new, old + ".stamps", new + ".stamps"):
         os.remove(path)
 
@@ -126,19 +125,19 @@ def program_made(scripts):
     path, new = scripts.at("made.alta"), scripts.at("less.alta")
     subprocess.run([scripts.program, path, "init"], check=True)
     lines = [line for i in range(20) for line in (f"add d{i}\tt\tred fox {'brown ' * (i * 50)}", "flush")]
-    levels.answered(scripts.program, path, [*lines, "delete d3", "delete d17", "merge", "delete d5", "add last\t\tfox"])
+    answered(scripts.program, path, [*lines, "delete d3", "delete d17", "merge", "delete d5", "add last\t\tfox"])
     expect(scripts.run("compact", path, new)[0] == 0, "it was not copied")
     same_index(contents(path), contents(new))
     expect(os.path.getsize(new) < os.path.getsize(path), "the copy is not smaller")
-    expect(levels.answered(scripts.program, path, levels.asking(9)) == levels.answered(scripts.program, new, levels.asking(9)), "made")
+    expect(answered(scripts.program, path, asking(9)) == answered(scripts.program, new, asking(9)), "made")
     os.remove(new)
     os.remove(path)
 
 
 def refusals(scripts, chance):
     """What is not copied: nothing is written then."""
-    changes = levels.made(chance, 40)
-    content, _, _ = levels.split(chance, changes, len(changes))
+    changes = made(chance, 40)
+    content, _, _ = split(chance, changes, len(changes))
     old, new = put(scripts.at("old.alta"), content), scripts.at("new.alta")
 
     def refused(why):
@@ -184,8 +183,8 @@ def refusals(scripts, chance):
 def killed(scripts, chance):
     """A copy that is killed at any moment is whole or not there."""
     old, new = scripts.at("big.alta"), scripts.at("copy.alta")
-    changes = levels.made(chance, 40)
-    content, _, _ = levels.split(chance, changes, len(changes))
+    changes = made(chance, 40)
+    content, _, _ = split(chance, changes, len(changes))
     put(old, content)
     for _ in range(10):
         process = scripts.start("compact", old, new)
@@ -224,7 +223,7 @@ def list_of(level, wanted):
 def checks(scripts):
     """Whole indexes and broken ones."""
     changes = [f"d{i}" if delete else (f"d{i}", "red fox", "the lazy dog " * 30) for i in range(12) for delete in ([0, 1] if i == 4 else [0])]
-    content, places, found = levels.split(random.Random(3), changes, len(changes))
+    content, places, found = split(random.Random(3), changes, len(changes))
     path = put(scripts.at("x.alta"), content)
     checked(scripts, path, 0, "whole: 11 documents", "free room")
     number, (level, place) = max(enumerate(zip(found, places), 1), key=lambda pair: len(pair[1][0]))
@@ -242,7 +241,7 @@ def checks(scripts):
     # One level with nothing behind it: a merge alone would not look at its lists.
     subprocess.run([scripts.program, scripts.at("one.alta"), "init"], check=True)
     one = scripts.at("one.alta")
-    levels.answered(scripts.program, one, [*(f"add d{i}\t\tred fox" for i in range(99)), "merge"])
+    answered(scripts.program, one, [*(f"add d{i}\t\tred fox" for i in range(99)), "merge"])
     checked(scripts, one, 0, "whole: 99 documents", "levels: 1")
     content = bytearray(contents(one))
     place, length = reading.read_roots(content)[1].levels[0]

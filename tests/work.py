@@ -22,11 +22,11 @@ import tempfile
 import time
 from typing import NamedTuple
 
-from answers import Machine, spelled
+from model.answers import Machine, spelled
 from damage import QUERIES, difference
-from held import Held, empty_file
-from reading import NoIndex, opened
-from segments import Broken
+from model.held import Held, empty_file
+from model.reading import NoIndex, opened
+from model.segments import Broken
 
 WORDS = ["red", "Fox", "quick", "brown", "dog", "lazy", "Over", "fox", "7", "1996", "4294967295", "007"]
 NAMES = "abcdefghijkl"

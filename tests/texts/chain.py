@@ -1,5 +1,5 @@
 #!/usr/bin/env python3
-"""Refuses a chain of crates that is too long: tests/chain.py
+"""Refuses a chain of crates that is too long: tests/texts/chain.py
 
 A crate's chain is the crate, one that it stands on, one that this stands on, and so on. The longest may have LONGEST crates, so
 that a reader comes from the program to the bottom in so many steps and a change is proved again through no more of them.
@@ -35,7 +35,7 @@ def longest_chain(needs):
 
 
 def main():
-    top = os.path.dirname(os.path.dirname(os.path.abspath(__file__)))
+    top = os.path.dirname(os.path.dirname(os.path.dirname(os.path.abspath(__file__))))
     with open(os.path.join(top, "crates.txt"), encoding="utf-8") as file:
         chain = longest_chain(crates_of(file.read()))
     print("chain: %d crates, at most %d: %s" % (len(chain), LONGEST, " ".join(chain)))

@@ -7,7 +7,7 @@ order of opening. Lists of levels are tested when they are asked for (`Level.loa
 from contextlib import contextmanager
 from typing import NamedTuple
 
-from segments import Broken, read_list, read_stream, read_tables, rule
+from .segments import Broken, read_list, read_stream, read_tables, rule
 
 SLOT = 4096
 HALF = 1048576

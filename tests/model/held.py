@@ -10,10 +10,10 @@ has changed. A join in progress is not in the file: where a run ends, `end_run` 
 from bisect import bisect_right
 from typing import NamedTuple
 
-from answers import cells_of
-from levels import entry_of_add, entry_of_delete, entry_of_replace
-from reading import HALF, HALVES, HEAD, LEVELS, NOTHING, OLD_PAYLOAD, OPEN, SLOT, SLOTS, Add, Delete, Extent, Replace, Root, opened
-from segments import Row, segment, stream
+from .answers import cells_of
+from .writing import entry_of_add, entry_of_delete, entry_of_replace
+from .reading import HALF, HALVES, HEAD, LEVELS, NOTHING, OLD_PAYLOAD, OPEN, SLOT, SLOTS, Add, Delete, Extent, Replace, Root, opened
+from .segments import Row, segment, stream
 
 GATE = bytes([OPEN])
 CLOSED = b"\0"

@@ -1,5 +1,5 @@
 #!/usr/bin/env python3
-"""Refuses documents that name what is not there, or that leave out what they promise to name: tests/register.py
+"""Refuses documents that name what is not there, or that leave out what they promise to name: tests/texts/register.py
 
 The register of docs/ARCHITECTURE.md is the one list of crates with what each is: it has exactly the crates of crates.txt, in their
 order, each once, under the headings of the layers, and no other document has a table of crates. No crate stands on one of a layer
@@ -382,7 +382,7 @@ def test_reading():
 def main():
     test_itself()
     test_reading()
-    top = os.path.dirname(os.path.dirname(os.path.abspath(__file__)))
+    top = os.path.dirname(os.path.dirname(os.path.dirname(os.path.abspath(__file__))))
     read = {}
 
     def text_of(path):

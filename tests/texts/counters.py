@@ -1,5 +1,5 @@
 #!/usr/bin/env python3
-"""Refuses a counter of steps that a search makes for itself: tests/counters.py
+"""Refuses a counter of steps that a search makes for itself: tests/texts/counters.py
 
 The bounds on a search are said of the one counter of steps that its caller lends. No contract forbids a body to make another, and
 to move readers by that; but whoever makes one has to name `Blank`, of which a counter is made. So no crate from the readers up to the search, the ranking, the
@@ -108,7 +108,7 @@ def test_itself():
 
 def main():
     test_itself()
-    top = os.path.dirname(os.path.dirname(os.path.abspath(__file__)))
+    top = os.path.dirname(os.path.dirname(os.path.dirname(os.path.abspath(__file__))))
     with open(os.path.join(top, "crates.txt"), encoding="utf-8") as file:
         crates = crates_below(crates_of(file.read()), TOPS)
     files = files_of(os.path.join(top, "crates"), crates)

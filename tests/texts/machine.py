@@ -1,5 +1,5 @@
 #!/usr/bin/env python3
-"""Refuses an abstract machine that rests on more than it may: tests/machine.py
+"""Refuses an abstract machine that rests on more than it may: tests/texts/machine.py
 
 What must be believed stands in one folder, crates/alta_machine/specs. Its files cite the kit's libraries, alta_codec and alta_text alone,
 so that whoever reads the folder, and of these two what it cites, has read all that the machine's step comes to. `specs/Lib.antt` has
@@ -33,7 +33,7 @@ def faults(folder):
 
 
 def main():
-    top = os.path.dirname(os.path.dirname(os.path.abspath(__file__)))
+    top = os.path.dirname(os.path.dirname(os.path.dirname(os.path.abspath(__file__))))
     found = faults(f"{top}/crates/{MACHINE}/specs")
     for fault in found:
         print(f"machine: {fault}")

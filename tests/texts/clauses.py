@@ -1,5 +1,5 @@
 #!/usr/bin/env python3
-"""Refuses a promise that is written out too often: tests/clauses.py
+"""Refuses a promise that is written out too often: tests/texts/clauses.py
 
 Where an `ensures` line stands word for word at more than three functions, what they share is a record with a name, a trait's contract
 or one function. Prints each such line with the places where it stands, and ends with 1 where there is one.
@@ -26,7 +26,7 @@ def places_of_lines(top):
 
 
 def main():
-    top = os.path.dirname(os.path.dirname(os.path.abspath(__file__)))
+    top = os.path.dirname(os.path.dirname(os.path.dirname(os.path.abspath(__file__))))
     places = places_of_lines(top)
     often = {line: found for line, found in places.items() if len(found) > MOST}
     for line, found in often.items():

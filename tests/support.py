@@ -1,0 +1,49 @@
+"""What several tests share: where the checkout is, a wait for something, the program over lines, and the end of each script."""
+
+import faulthandler
+import os
+import subprocess
+import sys
+import time
+import unittest
+
+TOP = os.path.dirname(os.path.dirname(os.path.abspath(__file__)))
+CLIENT = os.path.join(TOP, "client")
+BUNCO = os.path.join(TOP, "bunco")
+PATIENCE = 300  # seconds after which what should have come counts as missing
+
+sys.path.insert(0, CLIENT)
+
+
+def until(done):
+    """Waits until this is so. The tests rest on what happened, and never on how long it took."""
+    end = time.monotonic() + PATIENCE
+    while not done():
+        if time.monotonic() > end:
+            raise AssertionError("it does not come")
+        time.sleep(0.01)
+
+
+def run_lines(program, path, lines):
+    """Status, replies and the line on standard error."""
+    done = subprocess.run([program, path, "run"], input="".join(line + "\n" for line in lines).encode(), capture_output=True)
+    return done.returncode, done.stdout.decode().split("\n")[:-1], done.stderr.decode()
+
+
+def answered(program, path, lines):
+    status, replies, said = run_lines(program, path, lines)
+    if status != 0:
+        raise SystemExit(f"{path} ended with status {status}: {said.strip()}")
+    return replies
+
+
+def run_tests(name, take_program):
+    """Runs the tests of the script, given on its command line or all; `--program PATH` before them hands that path to the call."""
+    faulthandler.dump_traceback_later(10 * PATIENCE, exit=True)
+    words = sys.argv[1:]
+    if words[:1] == ["--program"]:
+        take_program(os.path.abspath(words[1]))
+        words = words[2:]
+    else:
+        print(f"{name}: without the real program", file=sys.stderr)
+    unittest.main(argv=[sys.argv[0], *words])
