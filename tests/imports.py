@@ -34,7 +34,7 @@ from support import BUNCO, PATIENCE, run_tests, until  # isort: skip
 import fake
 from buncocedar import LINE_LIMIT, Index, terminal
 from buncocedar.document import Document, NoText, Text, Unseen
-from buncocedar.imports import bringing, engine, folder, mail, packages, stamps
+from buncocedar.imports import bringing, engine, folder, mail, naming, packages, stamps
 from buncocedar.imports.interrupts import Interrupts
 from buncocedar.imports.log import Log
 from buncocedar.imports.parts import OVERLAP, parts_of, spaced
@@ -682,7 +682,7 @@ class Sources(Case):
             return stamps.numbered(name, number)
 
         many = [("x", str(number)) for number in range(300)]
-        with mock.patch.object(engine, "numbered", counted), mock.patch.object(bringing, "numbered", counted):
+        with mock.patch.object(naming, "numbered", counted), mock.patch.object(bringing, "numbered", counted):
             self.assertIn("300 added", self.documents(*many))
             self.assertIn("0 added, 300 unchanged", self.documents(*many))
             self.assertIn("1 added, 300 unchanged", self.documents(*many, ("x", "new")))

@@ -37,13 +37,13 @@ def answered(program, path, lines):
     return replies
 
 
-def run_tests(name, take_program):
+def run_tests(name, take_program=None):
     """Runs the tests of the script, given on its command line or all; `--program PATH` before them hands that path to the call."""
     faulthandler.dump_traceback_later(10 * PATIENCE, exit=True)
     words = sys.argv[1:]
-    if words[:1] == ["--program"]:
+    if take_program is not None and words[:1] == ["--program"]:
         take_program(os.path.abspath(words[1]))
         words = words[2:]
-    else:
+    elif take_program is not None:
         print(f"{name}: without the real program", file=sys.stderr)
     unittest.main(argv=[sys.argv[0], *words])

@@ -61,12 +61,13 @@ def bring_into(log, path, source, documents, options):
         interrupts = stack.enter_context(Interrupts(index))
         work = Import(index, stamps, source, options, log)
         work.run(documents, interrupts)
-        work.report()
-    if work.interrupted:
+        done = work.summary
+        done.report()
+    if done.interrupted:
         return 128 + interrupts.signal
-    if work.end is not None or work.fault:
+    if done.end is not None or done.fault:
         return STOPPED
-    return SOME_REFUSED if work.counts["refused"] else 0
+    return SOME_REFUSED if done.counts["refused"] else 0
 
 
 def bring_beside(log, path, source, documents, options):
