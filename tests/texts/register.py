@@ -4,8 +4,7 @@
 The register of docs/ARCHITECTURE.md is the one list of crates with what each is: it has exactly the crates of crates.txt, in their
 order, each once, under the headings of the layers, and no other document has a table of crates. No crate stands on one of a layer
 above its own, as crates.txt has it. The drawing of the layers has each crate of the program once, in the layer of its heading. The
-register says of each of these whether it touches a disk or a console, which is whether its sources use these. docs/GUARANTEES.md
-has the contract of each, in order, under the same headings.
+register says of each of these whether it touches a disk or a console, which is whether its sources use these.
 
 No crate, no file and no heading of docs/FIGURES.md is named in the documents below that is not there. docs/READING.md names each
 file of definitions to which the contract of `alta` leads by `use` lines, so that a reader of that page has read all that the
@@ -26,7 +25,6 @@ DOCUMENTS = [REGISTER, STATEMENTS, READING, FIGURES] + OTHERS
 CONTRACT = "crates/alta_session/src/top.rt"
 ROW = re.compile(r"^\| `?((?:alta|check|bench)_\w+)`? \|", re.MULTILINE)
 TOUCHES = re.compile(r"^\| (alta_\w+) \|.*\| ([^|]+) \|$", re.MULTILINE)
-STATEMENT = re.compile(r"^\*\*(alta_\w+)\*\*:", re.MULTILINE)
 OUTSIDE = ("disk", "console")
 CODE = re.compile(r"`[^`\n]*`")
 ALTA = re.compile(r"\balta_[a-z]+\b")
@@ -114,19 +112,6 @@ def register_faults(crates, text):
     return faults
 
 
-def statement_faults(crates, text, register):
-    """Of which crates of the program no contract is stated, or not in its place."""
-    program = [name for name in crates if name.startswith("alta_")]
-    stated = STATEMENT.findall(text)
-    faults = [f"{STATEMENTS}: {name} has no contract" for name in program if name not in stated]
-    if not faults and stated != program:
-        faults.append(f"{STATEMENTS}: the contracts do not stand in the order of crates.txt")
-    layers = headed(part(register, "Register of crates"), ROW)
-    if headed(part(text, "By crate"), STATEMENT)[0] != layers[0]:
-        faults.append(f"{STATEMENTS}: its headings are not those of the register")
-    return faults
-
-
 def touch_faults(text, used):
     """Of which crates the register does not say what they touch; `used` has what the sources of each use."""
     said = {name: [part for part in OUTSIDE if part in touches] for name, touches in TOUCHES.findall(text)}
@@ -149,7 +134,7 @@ def named(text):
 
 def faults_in(crates, texts, exists):
     """The faults of these documents, paths with their texts; `exists` tells whether a path of the repository is there."""
-    faults = register_faults(crates, texts[REGISTER]) + statement_faults(crates, texts[STATEMENTS], texts[REGISTER])
+    faults = register_faults(crates, texts[REGISTER])
     headings = HEADING.findall(texts[FIGURES])
     for path, text in texts.items():
         faults += [f"{path}: {name} is no crate" for name in sorted(named(text) - set(crates))]
@@ -274,11 +259,7 @@ TABLES = """
 """
 
 STATED = """
-## By crate
-
-### Low
-
-**alta_a**: `alta_b::check_it`, alta_z, check_y: `alta_a/specs/No.antt`, `tests/a.py`
+`alta_b::check_it`, alta_z, check_y: `alta_a/specs/No.antt`, `tests/a.py`
 As measured (`docs/FIGURES.md`, "Adds"; `docs/FIGURES.md`, "Sums")
 
 | check_c | again |
@@ -355,8 +336,8 @@ def test_itself():
     used = {"alta_a": outside_of("alta_a", ["ghost use alta_disk::x;\n"]), "alta_b": outside_of("alta_b", ["use alta_console::C;\n"])}
     fails("what is touched", touch_faults(good, used), [f"{REGISTER}: alta_b touches console"])
     texts = {REGISTER: good, STATEMENTS: STATED, FIGURES: "**Adds.** `bench/adds.py`, **not Sums.**\n"}
-    want = ["alta_b has no contract", "its headings are not those of the register", "alta_z is no crate", "check_y is no crate"]
-    want += ["check_c has a row, which belongs into the register", "there is no alta_a/specs/No.antt", "no figures are headed Sums"]
+    want = ["alta_z is no crate", "check_y is no crate", "check_c has a row, which belongs into the register"]
+    want += ["there is no alta_a/specs/No.antt", "no figures are headed Sums"]
     there = ("tests/a.py", "bench/adds.py", FIGURES)
     fails("names", faults_in(crates, texts, lambda path: path in there), [f"{STATEMENTS}: {fault}" for fault in want])
 
