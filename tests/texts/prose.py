@@ -14,7 +14,9 @@ from typing import NamedTuple
 
 TOP = os.path.dirname(os.path.dirname(os.path.dirname(os.path.abspath(__file__))))
 DOCUMENTS = [
+    "docs/ARCHITECTURE.md",
     "docs/GUARANTEES.md",
+    "docs/PLAN.md",
 ]
 MOST = 40  # words of a sentence
 # What these point at has to be named.
