@@ -15,8 +15,11 @@ from typing import NamedTuple
 TOP = os.path.dirname(os.path.dirname(os.path.dirname(os.path.abspath(__file__))))
 DOCUMENTS = [
     "docs/ARCHITECTURE.md",
+    "docs/FORMAT.md",
     "docs/GUARANTEES.md",
     "docs/PLAN.md",
+    "docs/QUERIES.md",
+    "docs/READING.md",
 ]
 MOST = 40  # words of a sentence
 # What these point at has to be named.
