@@ -86,7 +86,7 @@ class Commands:
         of the last document that was answered, and no further document is taken. Nothing is sent before the first outcome is
         asked for: `add_many` is for who wants none of them.
         """
-        sent = deque()
+        sent: deque[Tuple[str, Union[Reply, Refused]]] = deque()
         for name, title, body in documents:
             try:
                 sent.append((name, self.send_add(name, title, body, cut)))

@@ -6,7 +6,7 @@ import sys
 try:
     import readline
 except ImportError:
-    readline = None
+    readline = None  # type: ignore[assignment]
 
 LINES_KEPT = 1_000  # of the history
 
