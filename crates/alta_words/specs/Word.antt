@@ -35,6 +35,10 @@ pub record IsOnWay (list : List ℕ) (to before place at : ℕ) : Type 0 where
   pub low : before < to
   pub before_is : to ≤ at → (0 < read) × (before ≡ slice_index (0 ∷ list) (read - 1))
 
+-- the first location at or above `to` is one of the 64 behind the first i of the list, or the list has none
+abbrev pub IsNear : List ℕ → ℕ → ℕ → Type 0
+IsNear list i to = to ≤ slice_index_or list (i + 63) TOP
+
 -- `reach` is the last location of the block of a row, or of the list where the summary has no rows
 pub record ReachesTo (summary : List ℕ) (b row reach end : ℕ) : Type 0 where
   pub some : 0 < b → (row < b) × (reach ≡ field_at summary (3 * row + 1))

@@ -3,7 +3,7 @@ ghost use Rattle.std.specs.Prelude.{◌≡◌, ℕ, ◌+◌, ◌<◌, ◌≤◌}
 ghost use Rattle.alta_codec.specs.Rising.{IsRising, first_from, pred_of};
 ghost use Rattle.alta_codec.specs.declared.location.TheConstants.{TOP};
 ghost use Rattle.alta_postings.specs.Deltas.{IsBehind, decoded_list};
-ghost use Rattle.alta_words.specs.Word.{StandsAt};
+ghost use Rattle.alta_words.specs.Word.{IsNear, StandsAt};
 
 use alta_codec::{Loc, TOP};
 use alta_postings::Stream;
@@ -59,11 +59,13 @@ pub(crate) fn behind(stream: &Stream<'_>, from: Standing) -> Standing
     }
 }
 
-/// The first location at or above `to`, which the list has, behind a location below it whose number ends at a place.
+/// The first location at or above `to`, which the list has, behind a location below it whose number ends at a place. It is one of
+/// the next 64, and no number behind it is read: this is the one loop of a reader, and it reads no more than a block has.
 #[inline(always)]
 pub(crate) fn first_at(stream: &Stream<'_>, place: usize, last: Loc, to: Loc) -> Standing
     requires rising { IsRising (decoded_list stream.now) }
     requires behind { (i : ℕ) × IsBehind (decoded_list stream.now) i place last }
+    requires near { (i : ℕ) → IsBehind (decoded_list stream.now) i place last → IsNear (decoded_list stream.now) i to }
     requires low { last < to }
     requires top { to ≤ TOP }
     requires there { to ≤ pred_of (decoded_list stream.now) TOP }

@@ -9,7 +9,7 @@ ghost use Rattle.alta_postings.specs.Table.{field_at};
 ghost use Rattle.alta_reader.specs.Moves.{IsNewReader};
 ghost use Rattle.alta_words.specs.Held.{IsSoundWord, word_list, word_place, word_left, word_rises, word_stands};
 ghost use Rattle.alta_words.specs.Leaps.{Leaps};
-ghost use Rattle.alta_words.specs.Word.{IsPosting, ReachesTo};
+ghost use Rattle.alta_words.specs.Word.{IsNear, IsPosting, ReachesTo};
 
 use crate::standing::{Standing, behind, first, first_at};
 use alta_codec::{Loc, Steps, TOP};
@@ -75,14 +75,16 @@ impl<'a> WordReader<'a> {
     }
 
     /// From where the first location at or above `to` is to be read, which the block of a row has: the start of that block, or
-    /// where the reader stands, if that is behind it. The place, and the location before it.
+    /// where the reader stands, if that is behind it. The place, and the location before it. From there one block is read at most.
     fn way_to(&self, row: usize, to: Loc) -> (usize, Loc)
         requires sound { IsSoundWord self.now }
         requires above { word_place self.now < to }
         requires top { to ≤ TOP }
         requires within { row < self.now.summary.count }
+        requires reached { to ≤ field_at self.now.summary.bytes (3 * row + 1) }
         requires passed { (i : ℕ) → i < row → field_at self.now.summary.bytes (3 * i + 1) < to }
         ensures behind { (i : ℕ) × IsBehind (word_list self.now) i result.0 result.1 }
+        ensures near { (i : ℕ) → IsBehind (word_list self.now) i result.0 result.1 → IsNear (word_list self.now) i to }
         ensures low { result.1 < to }
     {
         let place = self.summary.row(row).place as usize;
