@@ -1,90 +1,103 @@
 // A disk over a real file, of which only the counts and the limit are told.
-// Its folder is synced at the first call also where the file was there, since an earlier process may have made it and stopped before
-// its sync; where that sync fails the call does, and it is tried again at the next one. `fdatasync` is enough for a sync, as it
-// writes the length too. Behind the first one each call is one `statx`, `pread64`, `pwrite64` or `fdatasync`.
+// `fdatasync` is enough for a sync, as it writes the length too. Behind the opening each call is one `statx`, `pread64` or `pwrite64`,
+// and a sync is one `fdatasync` and one `statx`.
 ghost use Rattle.std.specs.Prelude.{◌≡◌, ◌≤◌, ◌+◌, ◌-◌, ◌^◌, min, length, IfOk, OnOk};
 ghost use Rattle.alta_codec.specs.Faults.{Rose};
 ghost use Rattle.alta_disk.specs.Calls.{Charges};
 ghost use Rattle.alta_disk.specs.Disk.{Same, Passes};
 ghost use Rattle.alta_disk.specs.Untold.{untold, untold_lawful};
 
-use crate::{Disk, Failed};
+use crate::file_calls::{
+    FILE_LIMIT, lock, must_have_name, open_file, plain_length, sync_data, sync_folder,
+};
+use crate::file_fault::named;
+use crate::{Disk, Failed, FileFault};
 use alta_codec::Text;
-use std::fs::{File, OpenOptions};
-use std::io;
+use std::fs::File;
 use std::io::ErrorKind;
 use std::os::unix::fs::FileExt;
-use std::path::Path;
 use std::rt::Files;
 
-const FILE_LIMIT: u64 = 1 << 40;
-
-/// A file as a disk, of at most 2^40 bytes. It is opened at the first call, and made where it is missing; its folder
-/// is synced then, so that a stop loses no file that this process or an earlier one made. It is locked for this disk
-/// alone as long as it is open, by the system's advisory lock on whole files.
+/// A plain file as a disk, of at most 2^40 bytes. It is opened at the first call, and made where it is missing. It is locked
+/// for this disk alone as long as it is open, by the system's advisory lock on whole files.
 ///
-/// A call fails where the file can't be opened or locked, as where another holds the lock, where it is longer than the
-/// limit, where a read ends early, where a write takes nothing, and at each other error of the system. Without a path
-/// every call fails.
+/// The folder is synced at the opening of a file that is empty, so that a stop loses no file that this process or an earlier one
+/// made. Of a link it is the folder in which the file stands.
+///
+/// A sync that fails writes the first [`HEAD_BYTES`](alta_layout::HEAD_BYTES) bytes again, as a read gives them: a later sync would leave them out else, where the
+/// system takes them as written. So a sync that answers `Ok` makes firm what an earlier one did not, save where the process was
+/// killed inside of the one that failed, or where the bytes could not be written again.
+///
+/// A call fails where the file is no plain one, where it can't be opened or locked, as where another holds the lock, where it is
+/// longer than the limit, where a read ends early, where a write takes nothing, at a sync where the file was deleted or another
+/// took its place, and at each other error of the system. Without a path every call fails. `fault` says why the last one did.
 #[derive(Drop)]
-pub struct FileDisk<R: Files<File = File> + Drop> {
+pub struct FileDisk<R: Files<File = File> + AllocGlobal + Drop> {
     file: LazyFile<R>,
     faults: u64,
     taken: u64,
+    fault: Option<FileFault>,
 }
 
 // A file that the first call opens.
 #[derive(Drop)]
-struct LazyFile<R: Files<File = File> + Drop> {
+struct LazyFile<R: Files<File = File> + AllocGlobal + Drop> {
     rt: R,
     path: Option<Text>,
     file: Option<File>,
 }
 
-impl<R: Files<File = File> + Drop> LazyFile<R> {
-    fn open(&mut self) -> io::Result<()> {
+impl<R: Files<File = File> + AllocGlobal + Drop> LazyFile<R> {
+    fn open(&mut self) -> Result<(), FileFault> {
         if self.file.is_some() {
             return Ok(());
         }
         let Some(path) = &self.path else {
-            return Err(ErrorKind::NotFound.into());
+            return Err(no_path());
         };
         let file = open_file(&self.rt, path)?;
-        file.try_lock()?;
-        sync_folder(&self.rt, path)?;
-        length_within(&file)?;
+        lock(&file)?;
+        if plain_length(&file)? == 0 {
+            sync_folder(&self.rt, path)?;
+        }
         self.file = Some(file);
         Ok(())
     }
 
-    fn opened(&mut self) -> io::Result<&File> {
+    fn opened(&mut self) -> Result<&File, FileFault> {
         self.open()?;
         match &self.file {
             Some(file) => Ok(file),
-            None => Err(ErrorKind::NotFound.into()),
+            None => Err(no_path()),
         }
     }
 
-    fn len(&mut self) -> io::Result<u64>
+    fn len(&mut self) -> Result<u64, FileFault>
         ensures { IfOk result (λ n. n ≤ 2 ^ 40) }
     {
-        length_within(self.opened()?)
+        plain_length(self.opened()?)
     }
 
-    fn read(&mut self, at: u64, buf: &mut [u8]) -> io::Result<()> {
-        self.opened()?.read_exact_at(buf, at)
+    fn read(&mut self, at: u64, buf: &mut [u8]) -> Result<(), FileFault> {
+        named("pread64", self.opened()?.read_exact_at(buf, at))
     }
 
-    fn write(&mut self, at: u64, bytes: &[u8]) -> io::Result<()> {
-        self.opened()?.write_all_at(bytes, at)
+    fn write(&mut self, at: u64, bytes: &[u8]) -> Result<(), FileFault> {
+        named("pwrite64", self.opened()?.write_all_at(bytes, at))
     }
 
-    fn sync(&mut self) -> io::Result<()> {
-        self.opened()?.sync_data()
+    fn sync(&mut self) -> Result<(), FileFault> {
+        let file = self.opened()?;
+        sync_data(file)?;
+        must_have_name(file)
     }
 }
 
-impl<R: Files<File = File> + Drop> FileDisk<R> {
+fn no_path() -> FileFault {
+    FileFault::of("open", ErrorKind::NotFound, "no path")
+}
+
+impl<R: Files<File = File> + AllocGlobal + Drop> FileDisk<R> {
     /// A disk over the file at this path. Nothing is opened yet.
     pub fn new(rt: R, path: Option<Text>) -> FileDisk<R>
         ensures faults { (⟦<FileDisk<R> as Disk>⟧.state result).faults ≡ 0 }
@@ -98,49 +111,27 @@ impl<R: Files<File = File> + Drop> FileDisk<R> {
             },
             faults: 0,
             taken: 0,
+            fault: None,
         }
     }
 
-    fn count_fault(&mut self) -> Failed
+    /// Why the last call failed that did; nothing where none has.
+    pub fn fault(&self) -> Option<&FileFault> {
+        self.fault.as_ref()
+    }
+
+    fn count_fault(&mut self, fault: FileFault) -> Failed
         ensures rose { Rose self.old.faults self.new.faults }
         ensures later { self.old.faults ≤ self.new.faults }
         ensures taken { self.new.taken ≡ self.old.taken }
     {
         self.faults = self.faults.saturating_add(1);
+        self.fault = Some(fault);
         Failed
     }
 }
 
-// Opens the file, and makes it where it is missing.
-fn open_file<R: Files<File = File>>(rt: &R, path: &Text) -> io::Result<File> {
-    OpenOptions::new()
-        .read(true)
-        .write(true)
-        .create(true)
-        .open(rt, path.as_str())
-}
-
-// Makes the name of the file outlast a stop.
-fn sync_folder<R: Files<File = File>>(rt: &R, path: &Text) -> io::Result<()> {
-    let folder = match Path::new(path.as_str()).parent() {
-        Some(folder) if folder.as_str() != "" => folder,
-        _ => Path::new("."),
-    };
-    File::open(rt, folder)?.sync_all()
-}
-
-// The length of a file that is no longer than the limit.
-fn length_within(file: &File) -> io::Result<u64>
-    ensures { IfOk result (λ n. n ≤ 2 ^ 40) }
-{
-    let n = file.metadata()?.len();
-    if n > FILE_LIMIT {
-        return Err(ErrorKind::FileTooLarge.into());
-    }
-    Ok(n)
-}
-
-impl<R: Files<File = File> + Drop> Disk for FileDisk<R> {
+impl<R: Files<File = File> + AllocGlobal + Drop> Disk for FileDisk<R> {
     ghost tells = { ⊥ };
 
     ghost state = { λ d. untold d.faults d.taken (2 ^ 40) };
@@ -150,7 +141,7 @@ impl<R: Files<File = File> + Drop> Disk for FileDisk<R> {
     fn len(&mut self) -> Result<u64, Failed> {
         match self.file.len() {
             Ok(n) => Ok(n),
-            Err(_) => Err(self.count_fault()),
+            Err(fault) => Err(self.count_fault(fault)),
         }
     }
 
@@ -163,21 +154,21 @@ impl<R: Files<File = File> + Drop> Disk for FileDisk<R> {
                 self.taken = self.taken.saturating_add(buf.len() as u64);
                 Ok(())
             }
-            Err(_) => Err(self.count_fault()),
+            Err(fault) => Err(self.count_fault(fault)),
         }
     }
 
     fn write(&mut self, at: u64, bytes: &[u8]) -> Result<(), Failed> {
         match self.file.write(at, bytes) {
             Ok(()) => Ok(()),
-            Err(_) => Err(self.count_fault()),
+            Err(fault) => Err(self.count_fault(fault)),
         }
     }
 
     fn sync(&mut self) -> Result<(), Failed> {
         match self.file.sync() {
             Ok(()) => Ok(()),
-            Err(_) => Err(self.count_fault()),
+            Err(fault) => Err(self.count_fault(fault)),
         }
     }
 

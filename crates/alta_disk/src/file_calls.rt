@@ -1,0 +1,109 @@
+// What is asked of the system about one file: each call with its name, where it fails.
+ghost use Rattle.std.specs.Prelude.{◌≤◌, ◌^◌, IfOk};
+
+use crate::file_fault::{FileFault, named};
+use alta_codec::Text;
+use alta_layout::HEAD_BYTES;
+use std::fs::{self, File, Metadata, OpenOptions, TryLockError};
+use std::io;
+use std::io::ErrorKind;
+use std::os::unix::fs::{FileExt, MetadataExt};
+use std::rt::Files;
+
+pub(crate) const FILE_LIMIT: u64 = 1 << 40;
+
+const PAGE_BYTES: u64 = 4_096;
+
+// Opens the file, and makes it where it is missing.
+pub(crate) fn open_file<R: Files<File = File>>(rt: &R, path: &Text) -> Result<File, FileFault> {
+    let opened = OpenOptions::new()
+        .read(true)
+        .write(true)
+        .create(true)
+        .open(rt, path.as_str());
+    named("open", opened)
+}
+
+// Locks the whole file for this opening of it alone.
+pub(crate) fn lock(file: &File) -> Result<(), FileFault> {
+    match file.try_lock() {
+        Ok(()) => Ok(()),
+        Err(TryLockError::Error(error)) => named("flock", Err(error)),
+        Err(TryLockError::WouldBlock) => Err(FileFault::of(
+            "flock",
+            ErrorKind::WouldBlock,
+            "another program has the file open",
+        )),
+    }
+}
+
+// Makes the name of a file outlast a stop. Of a link it is the name that the link leads to.
+pub(crate) fn sync_folder<R: Files<File = File> + AllocGlobal>(
+    rt: &R,
+    path: &Text,
+) -> Result<(), FileFault> {
+    let mut folder = named("realpath", fs::canonicalize(rt, path.as_str()))?;
+    folder.pop();
+    let opened = named("open of the folder", File::open(rt, folder.as_str()))?;
+    named("fsync of the folder", opened.sync_all())
+}
+
+// What the system knows of the file. A call that a signal interrupts is tried again.
+fn status(file: &File) -> Result<Metadata, FileFault> {
+    for _ in 0..u64::MAX {
+        match file.metadata() {
+            Err(error) if error.kind() == ErrorKind::Interrupted => {}
+            answer => return named("statx", answer),
+        }
+    }
+    named("statx", Err(ErrorKind::Interrupted.into()))
+}
+
+// The length in bytes of a plain file that is no longer than the limit. Of a device the system tells no length, so none is taken.
+pub(crate) fn plain_length(file: &File) -> Result<u64, FileFault>
+    ensures { IfOk result (λ n. n ≤ 2 ^ 40) }
+{
+    let found = status(file)?;
+    if !found.is_file() {
+        return Err(FileFault::of("open", ErrorKind::InvalidInput, "no plain file"));
+    }
+    let n = found.len();
+    if n > FILE_LIMIT {
+        return named("statx", Err(ErrorKind::FileTooLarge.into()));
+    }
+    Ok(n)
+}
+
+// Fails where no name leads to the file any more: what is written into it is lost with this process.
+pub(crate) fn must_have_name(file: &File) -> Result<(), FileFault> {
+    if status(file)?.nlink() == 0 {
+        let words = "the file was deleted, or another took its place";
+        return Err(FileFault::of("statx", ErrorKind::NotFound, words));
+    }
+    Ok(())
+}
+
+// Makes all that was written firm.
+//
+// Where a sync fails, Linux takes the pages as written all the same: memory keeps their new bytes, each read gives these, and no
+// later sync writes them. So the head is written again then, and the next sync, of this run or of a later one, makes it firm or fails
+// too. Behind the head nothing has to be: what stands there counts only by a gate of the head, and a gate is opened only behind a sync
+// that was done. Where a stop cuts the writes short, the head has what it might have had before, as each byte is as it was.
+pub(crate) fn sync_data(file: &File) -> Result<(), FileFault> {
+    let synced = file.sync_data();
+    if synced.is_err() {
+        let _ = write_head_again(file);
+    }
+    named("fdatasync", synced)
+}
+
+// Writes what a read gives of each page of the head to its place, up to the first that can't be read or written.
+fn write_head_again(file: &File) -> io::Result<()> {
+    let mut bytes = [0; PAGE_BYTES as usize];
+    for page in 0..HEAD_BYTES / PAGE_BYTES {
+        let at = page * PAGE_BYTES;
+        file.read_exact_at(&mut bytes, at)?;
+        file.write_all_at(&bytes, at)?;
+    }
+    Ok(())
+}
