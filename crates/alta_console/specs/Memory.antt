@@ -32,6 +32,10 @@ failed_takes m = m.take_faults
 abbrev pub failed_gives : MemoryConsole → ℕ
 failed_gives m = m.give_faults
 
+-- how many calls failed for want of memory, up to the last value of a u64
+abbrev pub times_starved : MemoryConsole → ℕ
+times_starved m = m.starved
+
 -- the next call is one that fails
 abbrev pub IsListed : MemoryConsole → Type 0
 IsListed m = Contains (failing m) (next_call m)

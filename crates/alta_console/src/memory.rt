@@ -1,5 +1,5 @@
 // A console in memory. It keeps its transcript.
-ghost use Rattle.std.specs.Prelude.{◌≡◌, ◌<◌, ◌≤◌, ◌↔◌, ◌++◌, [], ◌∷◌, Some, length, take, drop, IfOk, OnOk, OnErr, IfSome, IsErr};
+ghost use Rattle.std.specs.Prelude.{◌≡◌, ◌⊎◌, ◌<◌, ◌≤◌, ◌↔◌, ◌++◌, [], ◌∷◌, Some, length, take, drop, IfOk, OnOk, OnErr, IfSome, IsErr};
 ghost use Rattle.alta_codec.specs.Faults.{Rose};
 ghost use Rattle.alta_console.specs.Transcript.{given_in, Grows, Consumes};
 ghost use Rattle.alta_console.specs.Sizes.{one_more, piece_size};
@@ -21,6 +21,7 @@ pub struct MemoryConsole {
     number: u64,
     take_faults: u64,
     give_faults: u64,
+    starved: u64,
     given: Vec<u8>,
     events: Vec<Event>,
     ghost in_input: { at ≤ length input.items },
@@ -29,12 +30,12 @@ pub struct MemoryConsole {
 }
 
 impl MemoryConsole {
-    ghost use Rattle.alta_console.specs.Memory.{transcript, input_left, sizes_left, failing, next_call, failed_takes, failed_gives};
+    ghost use Rattle.alta_console.specs.Memory.{transcript, input_left, sizes_left, failing, next_call, failed_takes, failed_gives, times_starved};
 
     /// A console with this input. Each take gives a piece of the next of the sizes `pieces`, where 0 counts as 1, or
     /// less where the buffer or the input is shorter; when they are used up, as much as fits. The calls whose
     /// numbers stand in `fail` answer `Failed` and use up neither input nor size: takes and gives are counted
-    /// together, from 1. A call that finds no memory for the transcript fails in the same way.
+    /// together, from 1. A call that finds no memory for the transcript fails in the same way, and is counted.
     pub fn new(alloc: Global, input: Vec<u8>, pieces: Vec<usize>, fail: Vec<u64>) -> Self
         ensures transcript { transcript result ≡ [] }
         ensures input { input_left result ≡ input.items }
@@ -43,6 +44,7 @@ impl MemoryConsole {
         ensures number { next_call result ≡ 1 }
         ensures take_faults { failed_takes result ≡ 0 }
         ensures give_faults { failed_gives result ≡ 0 }
+        ensures starved { times_starved result ≡ 0 }
     {
         MemoryConsole {
             alloc,
@@ -54,6 +56,7 @@ impl MemoryConsole {
             number: 1,
             take_faults: 0,
             give_faults: 0,
+            starved: 0,
             given: Vec::new(alloc),
             events: Vec::new(alloc),
         }
@@ -69,7 +72,7 @@ impl MemoryConsole {
 
 impl Console for MemoryConsole {
     ghost use Rattle.alta_console.specs.declared.event.Event.TheVariants.{Taken, Ended, Given};
-    ghost use Rattle.alta_console.specs.Memory.{transcript, input_left, sizes_left, failed_takes, failed_gives, IsListed, CountsCall, SameContent};
+    ghost use Rattle.alta_console.specs.Memory.{transcript, input_left, sizes_left, failed_takes, failed_gives, times_starved, IsListed, CountsCall, SameContent};
 
     ghost told = { λ m. Some m.events.items };
 
@@ -90,6 +93,7 @@ impl Console for MemoryConsole {
         ensures sizes { OnOk result (sizes_left self.new ≡ drop 1 (sizes_left self.old)) }
         ensures counted { CountsCall self.old self.new }
         ensures listed { IsListed self.old → IsErr result }
+        ensures only { OnErr result (IsListed self.old ⊎ Rose (times_starved self.old) (times_starved self.new)) }
         ensures same { OnErr result (SameContent self.old self.new) }
         ensures fault { OnErr result (failed_takes self.new ≡ one_more (failed_takes self.old)) }
         ensures take_count { failed_takes self.old ≤ failed_takes self.new }
@@ -105,6 +109,7 @@ impl Console for MemoryConsole {
         let rest = &self.input[self.at..];
         let n = next_size(&self.pieces[self.turn..], buf.len(), rest.len());
         if record_taken(self.alloc, &mut self.events, &rest[..n]).is_err() {
+            self.starved = self.starved.saturating_add(1);
             self.take_faults = self.take_faults.saturating_add(1);
             return Err(Failed);
         }
@@ -122,6 +127,7 @@ impl Console for MemoryConsole {
         ensures sizes { sizes_left self.new ≡ sizes_left self.old }
         ensures counted { CountsCall self.old self.new }
         ensures listed { IsListed self.old → IsErr result }
+        ensures only { OnErr result (IsListed self.old ⊎ Rose (times_starved self.old) (times_starved self.new)) }
         ensures same { OnErr result (SameContent self.old self.new) }
         ensures fault { OnErr result (failed_gives self.new ≡ one_more (failed_gives self.old)) }
         ensures give_count { failed_gives self.old ≤ failed_gives self.new }
@@ -135,6 +141,7 @@ impl Console for MemoryConsole {
             return Err(Failed);
         }
         if record_given(self.alloc, &mut self.events, &mut self.given, bytes).is_err() {
+            self.starved = self.starved.saturating_add(1);
             self.give_faults = self.give_faults.saturating_add(1);
             return Err(Failed);
         }
