@@ -7,6 +7,7 @@ mod event;
 mod memory;
 mod sizes;
 mod streams;
+mod tries;
 
 pub use console::Console;
 pub use event::Event;
