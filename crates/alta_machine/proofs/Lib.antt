@@ -1,3 +1,4 @@
+pub mod Apart
 pub mod Ranges
 pub mod Begun
 pub mod Few

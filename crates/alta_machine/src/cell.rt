@@ -1,10 +1,10 @@
 // A cell of a document: its terms, which rise.
 // A cell is an enum of none, one, two or many terms, so that only that of a number has a vector of its own.
-ghost use Rattle.std.specs.Prelude.{◌≡◌, ◌∷◌, [], length, slice_get};
+ghost use Rattle.std.specs.Prelude.{◌≡◌, ◌∷◌, [], false, length, slice_get, take, IfSome};
 ghost use Rattle.std.specs.Option.{option_copied};
 ghost use Rattle.std.specs.Str.{bytes_eq};
 ghost use Rattle.alta_codec.specs.Order.{Precedes};
-ghost use Rattle.alta_machine.specs.Cells.{IsCell, cell_holds, cell_begins};
+ghost use Rattle.alta_machine.specs.Cells.{IsCell, cell_holds, cell_begins, terms_of};
 
 use alta_codec::{Bytes, Len};
 use std::marker::Model;
@@ -88,16 +88,13 @@ impl Cell {
         }
     }
 
-    /// The term at an index.
+    /// The term at an index, which is none of those before it.
+    #[tactic(auto, using(crate::proofs::Apart::alone))]
     pub fn get(&self, i: usize) -> Option<&Bytes>
-        ensures { option_copied result ≡ slice_get self.now i }
+        ensures value { option_copied result ≡ slice_get self.now i }
+        ensures apart { IfSome result (λ term. cell_holds term.now (take i self.now) ≡ false) }
     {
-        match (i, &self.terms) {
-            (0, Terms::One(first) | Terms::Two(first, _)) => Some(first),
-            (1, Terms::Two(_, second)) => Some(second),
-            (_, Terms::Many(terms)) => terms.get(i),
-            _ => None,
-        }
+        term_at(&self.terms, i)
     }
 
     /// Whether it has the term.
@@ -136,6 +133,18 @@ impl Cell {
             }
             Terms::Many(terms) => terms.iter().any(|held| held.as_slice().starts_with(prefix)),
         }
+    }
+}
+
+/// The term at an index.
+fn term_at(terms: &Terms, i: usize) -> Option<&Bytes>
+    ensures { option_copied result ≡ slice_get (terms_of terms.now) i }
+{
+    match (i, terms) {
+        (0, Terms::One(first) | Terms::Two(first, _)) => Some(first),
+        (1, Terms::Two(_, second)) => Some(second),
+        (_, Terms::Many(terms)) => terms.get(i),
+        _ => None,
     }
 }
 

@@ -53,7 +53,7 @@ pub record Adds (old new : Entries) (more : List ℕ → List ℕ) : Type 0 wher
   pub added : (other : List ℕ) → list_in new other ≡ list_in old other ++ more other
 
 -- lists that have the location at the terms of the cell before the index, and no more than others had, have it at the term of the index too
-abbrev pub AddsOnce : List (List ℕ) → ℕ → ℕ → Entries → Entries → Type 0
-AddsOnce cell i location es fs =
+abbrev pub AddsAt : List (List ℕ) → ℕ → ℕ → Entries → Entries → Type 0
+AddsAt cell i location es fs =
     (base other : List ℕ) → list_in es other ≡ base ++ cond (cell_holds other (take i cell)) (location ∷ []) []
     → list_in fs other ≡ base ++ cond (cell_holds other (take (i + 1) cell)) (location ∷ []) []

@@ -3,12 +3,12 @@
 // map by hash, and are sorted only where order is asked for: all by a drain, and those that begin so by a search. The seed of the
 // hash is fixed: whoever picks words that collide makes adds slow, by the terms of one half of the journal at most, and no answer
 // wrong.
-ghost use Rattle.std.specs.Prelude.{◌≡◌, List, ℕ, ◌+◌, ◌<◌, ◌≤◌, ◌++◌, ◌∷◌, [], cond, length, take, slice_index_or, OnOk};
+ghost use Rattle.std.specs.Prelude.{◌≡◌, List, ℕ, ◌+◌, ◌<◌, ◌≤◌, ◌++◌, ◌∷◌, [], cond, length, OnOk};
 ghost use Rattle.std.specs.Str.{bytes_eq};
 ghost use Rattle.alta_codec.specs.declared.location.TheConstants.{TOP};
 ghost use Rattle.alta_machine.specs.Cells.{cell_holds};
 ghost use Rattle.alta_memlevel.specs.Added.{places_of};
-ghost use Rattle.alta_memlevel.specs.Lists.{list_in, Adds, AddsOnce, IsIndex};
+ghost use Rattle.alta_memlevel.specs.Lists.{list_in, Adds, AddsAt, IsIndex};
 
 use alta_codec::{Len, Loc};
 use alta_machine::Cell;
@@ -53,42 +53,19 @@ fn put_first(alloc: Global, lists: &mut Lists, term: &[u8], location: Loc) -> Re
     Ok(())
 }
 
-/// Whether the cell's term at the index is this one.
-fn is_at(cell: &Cell, i: usize, term: &[u8]) -> bool
-    requires { i < length cell.now }
-    ensures { result ≡ bytes_eq (slice_index_or cell.now i []) term.now }
-{
-    match cell.get(i) {
-        Some(held) => held.as_slice() == term,
-        None => false,
-    }
-}
-
-/// Whether one of the cell's terms before the index is this one.
-fn holds_before(cell: &Cell, end: usize, term: &[u8]) -> bool
-    requires { end ≤ length cell.now }
-    ensures { result ≡ cell_holds term.now (take end cell.now) }
-{
-    let mut found = false;
-    for i in 0..end {
-        found = is_at(cell, i, term) || found;
-    }
-    found
-}
-
-/// Adds a location to each term of the cell, once.
+/// Adds a location to each term of the cell.
 fn put_cell(alloc: Global, lists: &mut Lists, cell: &Cell, location: Loc) -> Result<(), AllocError>
     requires { IsIndex lists.old.entries }
     ensures { OnOk result (Adds lists.old.entries lists.new.entries (λ other. cond (cell_holds other cell.now) (location ∷ []) [])) }
 {
     for i in 0..cell.len() {
-        put_once(alloc, lists, cell, i, location)?;
+        put_at(alloc, lists, cell, i, location)?;
     }
     Ok(())
 }
 
-/// Adds a location to the term at the index, unless it stands before it too.
-fn put_once(
+/// Adds a location to the term at the index, which is none of those before it.
+fn put_at(
     alloc: Global,
     lists: &mut Lists,
     cell: &Cell,
@@ -98,16 +75,15 @@ fn put_once(
     requires within { i < length cell.now }
     requires index { IsIndex lists.old.entries }
     ensures index { OnOk result (IsIndex lists.new.entries) }
-    ensures added { OnOk result (AddsOnce cell.now i location lists.old.entries lists.new.entries) }
+    ensures added { OnOk result (AddsAt cell.now i location lists.old.entries lists.new.entries) }
 {
-    let Some(term) = cell.get(i) else {
-        return Ok(());
-    };
-    if holds_before(cell, i, term.as_slice()) {
-        return Ok(());
+    match cell.get(i) {
+        Some(term) => {
+            put(alloc, lists, term.as_slice(), location)?;
+            Ok(())
+        }
+        None => Ok(()),
     }
-    put(alloc, lists, term.as_slice(), location)?;
-    Ok(())
 }
 
 /// Adds the locations of a document's cells, the first of which stands at `first`.
