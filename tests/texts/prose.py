@@ -14,9 +14,12 @@ from typing import NamedTuple
 
 TOP = os.path.dirname(os.path.dirname(os.path.dirname(os.path.abspath(__file__))))
 DOCUMENTS = [
+    "CHANGELOG.md",
+    "docs/alta.1",
     "docs/ARCHITECTURE.md",
     "docs/FORMAT.md",
     "docs/GUARANTEES.md",
+    "docs/GUIDE.md",
     "docs/PLAN.md",
     "docs/QUERIES.md",
     "docs/READING.md",
