@@ -11,6 +11,10 @@ there and back, and its library is linked into the other copies. Prints "== NAME
 with 1 where one is not. An unchanged crate that is proved is not proved again.
 """
 
+# `rt all check` first reads the sources of all crates by one processor, which takes five minutes, goes by the number of
+# crates below, and gives each crate one job, also the last three, which are a third of the whole and have nothing beside
+# them. A copy of the sources takes a moment, and what a crate has in out/ is moved, not copied.
+
 import argparse
 import contextlib
 import fcntl

@@ -3,6 +3,9 @@
 The package is the folder `buncocedar`; its commands are those of the table [project.scripts].
 """
 
+# It stands here since setuptools asks for the package `wheel`, which is not everywhere, and pip fetches both from the
+# network. It goes when pip makes wheels of plain Python by itself.
+
 import base64
 import hashlib
 import os

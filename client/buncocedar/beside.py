@@ -6,6 +6,9 @@ Who makes something holds the lock of a file in its folder (`flock`). So a folde
 killed. The folder itself is not locked, since a client that can make no file beside an index locks its folder while it opens that.
 """
 
+# The age of a folder says nothing, since a long import is no dead one. Only a folder with such a name and nothing in it but
+# what is made there is taken away: a user's own may be called alike. Where a file system has no locks it stays.
+
 from __future__ import annotations
 
 import contextlib

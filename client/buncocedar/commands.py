@@ -1,5 +1,13 @@
 """The calls of an index, each of which sends a line of the program and takes its reply."""
 
+# The client knows no name that is taken. Whoever wants a name only where it is free asks first, by `count("name:a")`: one
+# program has an index open, so nobody comes in between, save other clients of its server.
+#
+# The end of an `explain` shows by the next reply. Its plan has no last line of its own; the client sends `stats` behind it.
+#
+# `add_all` has 64 lines under way. More would hide no more of the program's time, and each is one more document that a stop
+# leaves to be added again.
+
 from __future__ import annotations
 
 from collections import deque

@@ -1,5 +1,8 @@
 """A copy of an index without its holes, while nothing else uses it."""
 
+# A copy is a new file, and none is ever put in the place of the old one: who waits for the lock of the old file would get
+# that of a file without a name. Its other root slot and the other half of the journal are zeros.
+
 import contextlib
 import fcntl
 import os

@@ -1,5 +1,12 @@
 """Who has an index open: the turn to open it, the wait for another one, and which process that is, in words."""
 
+# A client takes no lock that its program would meet. It looks whether the file's lock is free, and then starts the program.
+# Meanwhile it holds the lock of an empty file beside the index, which it takes away then, so that no two clients start one at
+# once. Where no file can be made it holds the folder's lock. A program that is started by hand just between has the index,
+# and the client goes on waiting for it.
+#
+# The program of a client that was killed keeps its lock until it ends; one that ends, however it does, leaves none.
+
 from __future__ import annotations
 
 import contextlib

@@ -1,5 +1,14 @@
 """An index that is open: how it is opened, and how it ends."""
 
+# An index opens when the client asks for its first `stats`, so that a damaged one is an exception where it is opened.
+#
+# A second thread is refused, and not made to wait. Who shares an index between threads has a lock of his own, or a server. A
+# lock in each turn would let two threads share a reply's wait without saying in which order their lines are sent.
+#
+# A refusal that nobody took is raised by `close`, and told as a warning where an error is already on its way. A warning alone
+# is easily not seen, and an exception at the next line would be one of another line. A thousand are kept; of more the oldest
+# are warned of.
+
 from __future__ import annotations
 
 import os

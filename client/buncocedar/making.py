@@ -1,5 +1,8 @@
 """Making the file of an index: whole, or not at all."""
 
+# The client makes an index beside its place and renames it. So a stopped `init` leaves no file that is no index, and a file
+# that holds anything else is never written over.
+
 from __future__ import annotations
 
 import contextlib

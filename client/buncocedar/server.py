@@ -12,6 +12,21 @@ However it ends, what a client was answered is stored. The status is 0 where it 
 not be opened or the program has ended.
 """
 
+# Lines go to the program eight at most before the first of them has its reply, so that it need not wait for a hand-over
+# between two lines. Of one client only adds and deletes go ahead of their replies, eight at a time, since these hang on
+# nothing that the server knows. So eight lines of a client at most may be done and not answered where the server is killed.
+# One that sends much has eight lines in the queue at most, and one that does not read stops its own thread and no other. More
+# lines ahead would make the others wait longer: where an add takes four milliseconds, eight of them are a thirtieth of a
+# second.
+#
+# A search goes by a cursor, a page of a thousand rows at a time. Where all 64 are taken it is answered at once, and its rows
+# are kept here. A `merge` is one line, and all wait for it. A dump waits in a file: a reply that is read slowly would keep
+# the index for its reader alone.
+#
+# An idle server joins levels only where there are more than twelve. A step joins the two oldest levels alone, and writes the
+# oldest, which is the largest, anew each time. Below the limit of sixteen it spares nothing; from there on the join has to be
+# made at one of the next adds, and is made sooner.
+
 import argparse
 import contextlib
 import errno

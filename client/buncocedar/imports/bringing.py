@@ -1,5 +1,9 @@
 """A run of an import, as the words of a command say: into an index, into a new one by way of memory, or as lines to be added."""
 
+# A new index is made in memory only where that is asked for (`--fast`), since a stop of the machine leaves nothing of it.
+# What it has at the end is moved into place even where the program or the source ended early: an index is whole at each
+# moment.
+
 import argparse
 import contextlib
 import os

@@ -9,6 +9,18 @@ A document that is too long for a line goes in as several, its parts: `NAME`, `N
 with the last hundred words of the part before, so that a phrase over the border is found.
 """
 
+# An import replaces a document's parts first, and then deletes those that it has no more. So something of the document is
+# always there. A stop in between leaves parts of both, without a stamp that counts, and the next run stores them all anew.
+#
+# What is gone is deleted only by `--prune`, after a run that reached the end of its source, saw each of its folders, and
+# found anything at all: a disk that is not mounted is no empty archive.
+#
+# An import merges where there are sixteen levels and one more in the journal. From there on each full journal joins the two
+# oldest levels, and the oldest has all that was merged before, so each megabyte would write the whole of the old text again.
+# Merging sooner, as each 12,000,000 bytes, writes more: 6.2 bytes for a byte of text at 101 MB in place of 5.2
+# (docs/FIGURES.md, "A hundred megabytes"). Merging at a third of what there is was measured at 8.6 bytes at 88 MB. An import
+# counts what goes into the journal, since the file does not say how full it is.
+
 import os
 from collections import deque
 from typing import NamedTuple, Optional

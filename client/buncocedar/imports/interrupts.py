@@ -1,5 +1,9 @@
 """What an interrupt does to an import."""
 
+# An interrupt while Python still reads the modules of a script ends it with a traceback. Nothing is begun then. To end
+# without a word each script would need lines of its own before its imports, and Python's own start would still have a moment
+# of its own.
+
 import os
 import signal
 

@@ -7,6 +7,16 @@ in several forms, the HTML only if the plain one is blank. What a mail reader no
 With --show the words are ARCHIVE NAME, and the message of this name is printed; with --raw as it stands in the archive.
 """
 
+# A message is what the email package makes of it. Bytes beyond ASCII in fields are taken as they stand, and encoded words are
+# given to it run by run. A field with more than 64 parameters, for which it takes quadratic time, is left out. Where the
+# package gives up, the message is one text. A message in another's part is looked into; one that is packed in base64 is not.
+#
+# A Maildir is listed until nothing in it is new, a few times at most: who reads mail meanwhile moves and renames messages,
+# and `--prune` would delete what is in no list.
+#
+# The date is that of the Date field, in the sender's own time: what a reader sees there. A field that is no date is taken as
+# it stands.
+
 import codecs
 import datetime
 import email

@@ -1,5 +1,13 @@
 """Which name each document of an import gets: the one under which the index has it, or the first that is free."""
 
+# What stands under a name without a stamp is replaced, since a stop may leave a document without its stamp. Only its name is
+# known, so it could also be someone else's; the guide says so.
+#
+# Nothing has moved because its place is empty: a disk that is not mounted looks the same. So a changed file of another folder
+# gets a name of its own, and `--moved-from` says more. A link in its place that leads on does say that it has moved. An
+# unchanged file is known by a digest of its text. Size and time alone say nothing of two files in two folders, as where an
+# archive gave all its files one time.
+
 from __future__ import annotations
 
 import functools

@@ -1,5 +1,10 @@
 """The lines that a document becomes: its text without waste, and in parts where it is too long for a line."""
 
+# A long document is several documents, and `bunco find` alone makes one answer of them. The program knows no parts, so a
+# query is answered part by part, and `count` counts parts. Each part has the title, and of a message the lines of its header,
+# so that `"from ann" fox` finds a fox anywhere in a long message. A name that ends like a part's is changed as one that
+# breaks the rule on names. One document over several lines would be another format and another machine.
+
 import re
 
 from ..document import Unfit

@@ -13,6 +13,20 @@ line of a name or of a source counts.
 Who writes the file holds its lock (`flock`), from before it is read: of two imports into one index the second waits.
 """
 
+# A stamp counts only beside the document that it is of: an import asks for all names and numbers of the index as it begins
+# (`NOT name:! OR name:!` finds every document), and believes a stamp where name and number agree. So an index that was made
+# anew, a copy, or a lost file of stamps costs time and loses nothing.
+#
+# A stamp says where its document was found, so that `bunco find` walks over no archive to show it, and an archive that has
+# moved is one line. A piece of an mbox is a place and a length. The next run corrects it where a mail program has taken
+# messages out before it; until then another text may be shown.
+#
+# `FORM` is part of each stamp: when an import begins to make other lines of the same document, all documents count as changed
+# once. Messages have one more of their own, so that files and packages are not brought in anew with them.
+#
+# The lock is that of the stamps and not of the index: behind a server two imports would give one name to two documents, and
+# write each over the other's. No file is made for it, and an import that is killed leaves no lock.
+
 import hashlib
 import os
 import re

@@ -8,6 +8,10 @@ it has lost.
 The status is 0 where the index is whole, 1 where it is damaged or has lost documents, and 3 where it could not be checked.
 """
 
+# A check is a merge of a copy, since a merge tests each list as a search does, and all of them. One document is added before,
+# as a merge of one level has nothing to do. A reading of the format in Python would be a second program to keep, and would
+# not say what the program says.
+
 import argparse
 import os
 import shutil

@@ -1,5 +1,9 @@
 """The documents behind the answers: where they were found, their texts as they stand there, and the way into an editor."""
 
+# A document is opened in an editor where it stands only if it is a file of a folder. A message of an mbox, a package and a
+# packed file are pieces of something, and what the editor would write is not what stands there. They are copies that can't be
+# written. The index is let go before the editor begins, but at the prompt, which has it as long as it runs.
+
 import contextlib
 import os
 import re

@@ -10,6 +10,12 @@ The status is 0 where the last query found something, 1 where it found nothing, 
 could not be asked.
 """
 
+# The newest answers are shown first wherever there is no score. That needs all rows before the first is shown; many of them
+# wait in a file. `--oldest` shows them as they come.
+#
+# The prompt shows the best answers first, and a command the newest: who types a query reads a few answers, and what a script
+# pipes on is mostly a list. A program that knows no `top` is asked for the newest.
+
 import argparse
 import collections
 import json
