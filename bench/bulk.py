@@ -2,7 +2,7 @@
 """Measures adding many documents with a merge behind them, beside SQLite's full-text index, and how the cost grows.
 
 usage: bench/bulk.py [--program PATH] [--lines FILE | --texts FOLDER] [--count N] [--parts N,N,..] [--folder FOLDER] [--fast]
-                     [--merge-full | --merge-each BYTES [--merge-share SHARE]]
+                     [--merge-full | --merge-each BYTES [--merge-share SHARE]] [--record FILE]
 
 FILE has `add` lines, as `bunco packages` writes them. Without one, the text files below FOLDER (/usr/share/doc), packed ones
 too, are cut at empty lines into documents of 400 bytes or more, in the order of their paths. The first N of the documents
@@ -18,7 +18,8 @@ the current folder by default), by:
 
 Prints for each the documents a second, the processor time, the bytes that it handed to the system to write for each byte of text, the
 peak memory, and the size of the index beside the text: of the program's level, of its file without slots and journal, and of FTS5's
-file behind a `vacuum`. The number of documents that each finds for a word may differ by where it cuts words.
+file behind a `vacuum`. The number of documents that each finds for a word may differ by where it cuts words. With --record
+the program's seconds, memory and sizes go into a file of figures, from which bench/plot.py draws how they grow.
 """
 
 import argparse
@@ -40,6 +41,7 @@ sys.path[:0] = [os.path.join(TOP, "tests"), os.path.join(TOP, "client")]
 from buncocedar.fileformat import LEVELS
 from buncocedar.imports.engine import Levels
 from model.reading import HEAD, read_roots
+from recorded import record
 
 LEAST = 400  # bytes of a document that is cut from a file
 WORD = "version"
@@ -75,6 +77,38 @@ class Cost(NamedTuple):
 
     def and_then(self, other):
         return Cost(*(a + b for a, b in zip(self[:3], other[:3])), max(self.memory, other.memory))
+
+
+class Grown(NamedTuple):
+    """What an index of so much text costs: megabytes of text, seconds of the processor for adds and merges, milliseconds of an opening,
+    peak memory in MiB, megabytes of its level."""
+
+    text: float
+    adding: float
+    opening: float
+    memory: float
+    level: float
+
+
+def panels_of(grown):
+    """The panels of a picture of how these grow."""
+    drawn = {
+        "adding": ("adds and merges, processor time", "s"),
+        "opening": ("an opening, processor time", "ms"),
+        "memory": ("memory at most", "MiB"),
+        "level": ("the merged index", "MB"),
+    }
+    return [
+        {
+            "title": title,
+            "kind": "lines",
+            "unit": unit,
+            "across": "megabytes of text",
+            "series": ["Buncocedar"],
+            "rows": [[cost.text, getattr(cost, name)] for cost in grown],
+        }
+        for name, (title, unit) in drawn.items()
+    ]
 
 
 def peak_until_end(process):
@@ -222,7 +256,8 @@ def by_program(program, folder, source, count, text):
     print(f"  index: {len(levels)} level of {size} bytes, {size / text:.3f} of the text; the file {(len(content) - HEAD) / text:.3f}")
     beside = (merged.memory - opened.memory) * 1024 / size
     print(f"  memory: the merge takes {merged.memory * 1024 / size:.1f} times the level, {beside:.1f} of them beside the open index")
-    return given[1]
+    grown = Grown(text / 1e6, added.and_then(merged).processor, opened.processor * 1e3, merged.memory / 1024, size / 1e6)
+    return given[1], grown
 
 
 def by_table(folder, source, count, text, how):
@@ -254,11 +289,13 @@ def measure(program, options, lines):
                 file.writelines(with_merges_of_levels(lines))
             else:
                 file.writelines(with_merges(lines, options.merge_each, options.merge_share))
-        found = {"program": by_program(program, folder, given, len(lines), text)}
+        answer, grown = by_program(program, folder, given, len(lines), text)
+        found = {"program": answer}
         for how in ("commits", "bulk")[options.fast :]:
             found[f"FTS5, {how}"] = by_table(folder, source, len(lines), text, how)
     told = ", ".join(f"{name} {given.removeprefix('found ')}" for name, given in found.items())
     print(f"  documents with {WORD!r}: {told}", flush=True)
+    return grown
 
 
 def main():
@@ -270,6 +307,7 @@ def main():
     parser.add_argument("--parts", type=lambda text: [int(word) for word in text.split(",")], default=[4, 2, 1])
     parser.add_argument("--folder", default=".")
     parser.add_argument("--fast", action="store_true")
+    parser.add_argument("--record", metavar="FILE")
     parser.add_argument("--merge-full", action="store_true")
     parser.add_argument("--merge-each", metavar="BYTES", type=int, default=0)
     parser.add_argument("--merge-share", metavar="SHARE", type=float, default=0)
@@ -279,8 +317,9 @@ def main():
         raise SystemExit("bulk: the program is not built: run ./alta once")
     print(f"SQLite {sqlite3.sqlite_version}, Python {platform.python_version()}, {platform.system()} {platform.release()}, {os.cpu_count()} processors")
     lines = documents_of(options)
-    for part in options.parts:
-        measure(program, options, lines[: len(lines) // part])
+    grown = [measure(program, options, lines[: len(lines) // part]) for part in options.parts]
+    if options.record:
+        record(options.record, "How the costs of an index grow with its text", panels_of(sorted(grown)))
     return 0
 
 

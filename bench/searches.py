@@ -1,7 +1,7 @@
 #!/usr/bin/env python3
 """Measures counts of queries beside SQLite's full-text index over the same documents, in the same run.
 
-usage: bench/searches.py [--program PATH] [--before PATH ..] --lines FILE [--count N] [--repeat N] [--turns N] [--merged] [--levels] [--gaps N] [--top K]
+usage: bench/searches.py [--program PATH] [--before PATH ..] --lines FILE [--count N] [--repeat N] [--turns N] [--merged] [--levels] [--gaps N] [--top K] [--record FILE]
 
 FILE has `add` lines, as `bunco packages - /var/lib/dpkg/status` writes them. As many of its first N documents as fit in one journal half go
 into a new index of the program and into a new FTS5 table in memory of Python's sqlite3, whose words are cut by its `unicode61`. With
@@ -14,6 +14,8 @@ SQLite cut words in other ways.
 
 With --top the best K are asked for in place of counts: `top K` of the program beside its `count`, FTS5's `order by rank limit K`, and the
 first K of Xapian, where its Python module is there, by its default weighting. Neither of these two tells how many there are.
+
+With --record the milliseconds go into a file of figures, from which bench/plot.py draws a picture.
 """
 
 import argparse
@@ -25,6 +27,7 @@ import tempfile
 import time
 
 from peer import database_of, query_of, table_of, texts_of, xapian
+from recorded import record
 from rounds import spent
 
 JOURNAL_BYTES = 1_048_576
@@ -54,6 +57,19 @@ QUERIES = [
     ("lib*", "lib*"),
     ("title:library", "title: library"),
 ]
+
+# Those of which a picture is drawn, with their kinds.
+PICTURED = {
+    "library": "a common word",
+    "chess": "a rare word",
+    "python AND library": "both words",
+    "library NOT development": "one without another",
+    "python OR perl": "either word",
+    '"shared library"': "a phrase",
+    "data NEAR/5 library": "near words",
+    "lib*": "a prefix",
+    "title:library": "a word in titles",
+}
 
 # A common word, a middle one, a rare one, all of two, one of two, a phrase: the same for all three.
 RANKED = ["for", "python", "chess", "python AND library", "python OR perl", '"shared library"']
@@ -124,7 +140,9 @@ def least_of(turns, calls):
 
 
 def compared(programs, base, options):
-    """Prints the milliseconds a query of the programs, less an opening in the same turns, and of the table, and what each counts."""
+    """Prints the milliseconds a query of the programs, less an opening in the same turns, and of the table, and what each counts. Answers
+    those of the first program and of the table for the pictured ones."""
+    rows = []
     for ours, theirs in QUERIES:
         data = f"count {ours}\n".encode() * options.repeat
         calls = [lambda one=one, asked=asked: one.turn(asked) for one in programs for asked in (b"", data)]
@@ -133,10 +151,15 @@ def compared(programs, base, options):
         for one, (opening, _), (seconds, found) in zip(programs, mine[::2], mine[1::2]):
             shown.append(f"{one.label}{(seconds - opening) / options.repeat * 1e3:.3f} ms ({found}), {(seconds - opening) / peer:.2f} of FTS5")
         print(f"{ours}: " + ", ".join(shown) + f", FTS5 {peer / options.repeat * 1e3:.3f} ms ({counted})", flush=True)
+        if ours in PICTURED:
+            rows.append([f"{PICTURED[ours]}: {ours}", *(seconds / options.repeat * 1e3 for seconds in (mine[1][0] - mine[0][0], peer))])
+    return [{"title": "one count", "kind": "bars", "unit": "ms", "series": ["Buncocedar", "SQLite FTS5"], "rows": rows}]
 
 
 def ranked(programs, base, database, options):
-    """Prints the milliseconds of the best answers and of the count by each program, less an opening, and of the best answers by its peers."""
+    """Prints the milliseconds of the best answers and of the count by each program, less an opening, and of the best answers by its peers.
+    Answers those of the best answers by the first program and its peers."""
+    rows, peers = [], ["SQLite FTS5", "Xapian"][: 1 + (database is not None)]
     openings = least_of(max(5, options.turns), [lambda one=one: one.turn(b"") for one in programs])
     print("opening " + ", ".join(f"{seconds * 1e3:.1f} ms" for seconds, _ in openings))
     for query in RANKED:
@@ -156,6 +179,9 @@ def ranked(programs, base, database, options):
         for name, (seconds, found) in zip(["FTS5", "Xapian"], times[2 * len(programs) :]):
             shown.append(f"{name} {seconds / options.repeat * 1e3:.3f} ms ({found})")
         print(f"{query}: " + "; ".join(shown), flush=True)
+        best = [times[0][0] - openings[0][0], *(seconds for seconds, _ in times[2 * len(programs) :])]
+        rows.append([query, *(seconds / options.repeat * 1e3 for seconds in best)])
+    return [{"title": f"the best {options.top}", "kind": "bars", "unit": "ms", "series": ["Buncocedar", *peers], "rows": rows}]
 
 
 def main():
@@ -171,6 +197,7 @@ def main():
     parser.add_argument("--levels", action="store_true")
     parser.add_argument("--gaps", metavar="N", type=int, default=0)
     parser.add_argument("--top", metavar="K", type=int, default=0)
+    parser.add_argument("--record", metavar="FILE")
     options = parser.parse_args()
     with open(options.lines, "rb") as file:
         lines = file.readlines()[: options.count]
@@ -184,9 +211,11 @@ def main():
             programs.append(Program(options.program, folder, in_levels(lines), "in levels "))
         base = table_of(texts_of(lines), os.path.join(folder, "x.db") if options.merged else ":memory:", not options.merged)
         if options.top:
-            ranked(programs, base, database_of(texts_of(lines), folder) if xapian else None, options)
+            panels = ranked(programs, base, database_of(texts_of(lines), folder) if xapian else None, options)
         else:
-            compared(programs, base, options)
+            panels = compared(programs, base, options)
+        if options.record:
+            record(options.record, f"Searches over {len(lines):,} short descriptions", panels)
     return 0
 
 

@@ -1,0 +1,28 @@
+"""Figures that a bench records as JSON, for bench/plot.py: see there for the form."""
+
+import json
+import os
+import platform
+import shlex
+import sqlite3
+import sys
+
+
+def machine():
+    """The machine and its load, in one line."""
+    load = " ".join(f"{number:.1f}" for number in os.getloadavg())
+    return f"{platform.system()} {platform.release()}, {os.cpu_count()} processors, load {load}; SQLite {sqlite3.sqlite_version}"
+
+
+def command():
+    """The command line of this bench, without the paths that are of this machine alone."""
+    words = [os.path.join("bench", os.path.basename(sys.argv[0])), *sys.argv[1:]]
+    return shlex.join(os.path.basename(word) if os.path.isabs(word) else word for word in words)
+
+
+def record(path, title, panels):
+    """Writes a file of figures."""
+    figures = {"title": title, "command": command(), "machine": machine(), "panels": panels}
+    with open(path, "w", encoding="utf-8") as file:
+        json.dump(figures, file, indent=1)
+        file.write("\n")
