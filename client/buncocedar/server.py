@@ -399,15 +399,21 @@ def serve(options):
     return 0
 
 
-def main(arguments=None):
+def parser():
+    """What the words of the command may be."""
     parser = argparse.ArgumentParser(
         prog="bunco serve", description=__doc__, formatter_class=argparse.RawDescriptionHelpFormatter
     )
     parser.add_argument("index", metavar="INDEX")
     parser.add_argument("--create", action="store_true", help="make the index where there is none")
     parser.add_argument("--wait", metavar="SECONDS", type=float, default=10.0, help="how long to wait for who has it open")
+    return parser
+
+
+def main(arguments=None):
+    options = parser().parse_args(arguments)
     try:
-        return serve(parser.parse_args(arguments))
+        return serve(options)
     except (Error, OSError) as error:
         say(error)
         return STOPPED

@@ -125,14 +125,19 @@ def files(top, without=frozenset(), selection=Selection(), latin=False):
         yield no_document(os.path.relpath(error.filename, top), Unseen(error.strerror))
 
 
-def main(arguments=None):
+def parser():
+    """What the words of the command may be."""
     parser = parser_of("folder", __doc__, ("FOLDER", "the folder of text files"))
     parser.add_argument("--only", metavar="PATTERN", action="append", default=[], help="take only files of such names, as '*.txt'")
     parser.add_argument(
         "--skip", metavar="PATTERN", action="append", default=[], help=f"leave out such files and folders, besides {', '.join(SKIPPED)}"
     )
     parser.add_argument("--latin-1", action="store_true", help="read files that are no UTF-8 as Latin-1")
-    options = parser.parse_args(arguments)
+    return parser
+
+
+def main(arguments=None):
+    options = parser().parse_args(arguments)
     if not os.path.isdir(options.folder):
         print(f"folder: {options.folder} is no folder", file=sys.stderr)
         return BAD_USE

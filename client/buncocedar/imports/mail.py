@@ -488,11 +488,16 @@ def show(archive, name, as_it_stands):
     return 1
 
 
-def main(arguments=None):
+def parser():
+    """What the words of the command may be."""
     parser = parser_of("mail", __doc__, ("ARCHIVE", "an mbox file, a Maildir folder, or a file of one message"))
     parser.add_argument("--show", action="store_true", help="print a message: the words are ARCHIVE NAME")
     parser.add_argument("--raw", action="store_true", help="print it as it stands in the archive")
-    options = parser.parse_args(arguments)
+    return parser
+
+
+def main(arguments=None):
+    options = parser().parse_args(arguments)
     archive = options.index if options.show else options.archive
     if not os.path.exists(archive):
         print(f"mail: {archive}: there is none", file=sys.stderr)

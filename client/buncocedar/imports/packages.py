@@ -68,11 +68,16 @@ def read(found):
     return text
 
 
+def parser():
+    """What the words of the command may be."""
+    return parser_of("packages", __doc__, ("[FILE]", "a file of stanzas; without one they are read from standard input"))
+
+
 def main(arguments=None):
-    parser = parser_of("packages", __doc__, ("[FILE]", "a file of stanzas; without one they are read from standard input"))
-    options = parser.parse_args(arguments)
+    words = parser()
+    options = words.parse_args(arguments)
     if options.file is None and sys.stdin.isatty():
-        parser.print_usage(sys.stderr)
+        words.print_usage(sys.stderr)
         return BAD_USE
     try:
         source = open(sys.stdin.fileno() if options.file is None else options.file, "rb")

@@ -110,12 +110,17 @@ def check_stamps(path, live):
     return WHOLE
 
 
-def main(arguments=None):
+def parser():
+    """What the words of the command may be."""
     parser = argparse.ArgumentParser(
         prog="bunco check", description=__doc__, formatter_class=argparse.RawDescriptionHelpFormatter
     )
     parser.add_argument("index", metavar="INDEX")
-    options = parser.parse_args(arguments)
+    return parser
+
+
+def main(arguments=None):
+    options = parser().parse_args(arguments)
     try:
         return check(options.index)
     except Unusable as fault:

@@ -15,13 +15,18 @@ from ..copying import locked, put_copy
 from ..fileformat import Unusable
 
 
-def main(arguments=None):
+def parser():
+    """What the words of the command may be."""
     parser = argparse.ArgumentParser(
         prog="bunco compact", description=__doc__, formatter_class=argparse.RawDescriptionHelpFormatter
     )
     parser.add_argument("old", metavar="OLD", help="the index")
     parser.add_argument("new", metavar="NEW", help="the copy: no file has this name yet")
-    options = parser.parse_args(arguments)
+    return parser
+
+
+def main(arguments=None):
+    options = parser().parse_args(arguments)
     try:
         with locked(options.old) as file:
             put_copy(file, options.old, options.new)

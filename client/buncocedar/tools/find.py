@@ -402,7 +402,8 @@ def best_count(text):
     return count
 
 
-def words():
+def parser():
+    """What the words of the command may be."""
     parser = argparse.ArgumentParser(
         prog="bunco find", description=__doc__, formatter_class=argparse.RawDescriptionHelpFormatter
     )
@@ -430,14 +431,14 @@ def words():
     return parser
 
 
-def wrong_use(parser, options, places):
+def wrong_use(words, options, places):
     """Ends where the words of the command do not go together, and tells whether the file that they need is missing."""
     if options.null and not (options.paths or options.names):
-        parser.error("-0 goes with --paths or --names")
+        words.error("-0 goes with --paths or --names")
     if options.top and (options.limit or options.count):
-        parser.error("--top goes with neither --limit nor --count")
+        words.error("--top goes with neither --limit nor --count")
     if options.edit and options.query is None:
-        parser.error("--edit goes with a query; at the prompt, edit N opens a document")
+        words.error("--edit goes with a query; at the prompt, edit N opens a document")
     is_missing = (options.context or options.show or options.edit or options.paths) and not os.path.exists(places.path)
     if is_missing:
         print(f"find: there is no {places.path}: which file a document stands in is not known", file=sys.stderr)
@@ -477,11 +478,11 @@ def ask(options, view):
 
 
 def main(arguments=None):
-    parser = words()
-    options = parser.parse_args(arguments)
+    words = parser()
+    options = words.parse_args(arguments)
     options.context = options.context or options.around > 0
     places = Places(options.index, options.source)
-    if wrong_use(parser, options, places):
+    if wrong_use(words, options, places):
         return 2
     # Names of files need not be text: they are written as the bytes that they are.
     sys.stdout.reconfigure(errors="surrogateescape")

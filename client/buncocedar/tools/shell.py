@@ -108,14 +108,19 @@ def run(options, prompt):
     return status
 
 
-def main(arguments=None):
+def parser():
+    """What the words of the command may be."""
     parser = argparse.ArgumentParser(
         prog="bunco shell", description=__doc__, formatter_class=argparse.RawDescriptionHelpFormatter
     )
     parser.add_argument("index", metavar="INDEX")
     parser.add_argument("--create", action="store_true", help="make the index where there is none")
     parser.add_argument("--wait", metavar="SECONDS", type=float, default=10.0, help="how long to wait for who has it open")
-    options = parser.parse_args(arguments)
+    return parser
+
+
+def main(arguments=None):
+    options = parser().parse_args(arguments)
     # What a locale can't write ends no run, and another program gets the bytes of the replies.
     sys.stdout.reconfigure(**({"errors": "replace"} if sys.stdout.isatty() else {"encoding": "utf-8"}))
     try:
