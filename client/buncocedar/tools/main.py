@@ -3,6 +3,7 @@
 from __future__ import annotations
 
 import importlib
+import shutil
 import sys
 from typing import List, NamedTuple, Optional
 
@@ -16,34 +17,94 @@ class Command(NamedTuple):
     module: str
     about: str
 
+    def load(self):
+        """The module, which has `parser()` and `main(words)`."""
+        return importlib.import_module(self.module)
+
 
 COMMANDS = (
+    Command("init", "buncocedar.tools.init", "make an empty index"),
     Command("mail", "buncocedar.imports.mail", "bring in the messages of a mail archive"),
     Command("folder", "buncocedar.imports.folder", "bring in the text files of a folder"),
     Command("packages", "buncocedar.imports.packages", "bring in Debian's package descriptions"),
     Command("find", "buncocedar.tools.find", "find documents, by one query or at a prompt"),
     Command("shell", "buncocedar.tools.shell", "a prompt for all commands of an index"),
     Command("serve", "buncocedar.server", "share an index between many programs"),
+    Command("status", "buncocedar.tools.status", "what an index has, and who has it open"),
     Command("check", "buncocedar.tools.check", "read all of an index, and say whether it is whole"),
     Command("compact", "buncocedar.tools.compact", "copy an index without its free room, as for a backup"),
+    Command("dump", "buncocedar.tools.dump", "write the words of all documents, as lines that add them"),
 )
+
+OTHERS = (
+    ("help COMMAND", "the manual page of a command"),
+    ("completion SHELL", "what completes these words in bash or zsh"),
+    ("--version", "the version of the package"),
+)
+
+
+def named(word: str) -> Optional[Command]:
+    """The command of this name, or None."""
+    return next((command for command in COMMANDS if command.name == word), None)
 
 
 def usage() -> str:
     """The help of `bunco`, on one screen."""
-    width = max(len(command.name) for command in COMMANDS)
-    lines = [f"  {command.name:{width}}  {command.about}" for command in COMMANDS]
-    return "\n".join(["usage: bunco COMMAND ..", "", *lines, "", "bunco COMMAND --help says what a command takes."])
+    rows = [(command.name, command.about) for command in COMMANDS] + list(OTHERS)
+    width = max(len(name) for name, _ in rows)
+    lines = [f"  {name:{width}}  {about}" for name, about in rows]
+    example = ["  bunco mail mail.alta archive.mbox", "  bunco find mail.alta '\"red fox\" OR title:meeting'"]
+    return "\n".join(["usage: bunco COMMAND ..", "", *lines, "", "To begin:", *example])
+
+
+def help_on(words: List[str]) -> int:
+    """Shows the manual page of a command, or without one the help of all; answers the exit status."""
+    from ..terminal import paged, write
+    from .manual import page_of
+    from .manual import text_of as shown
+
+    command = named(words[0]) if words else None
+    if words and command is None:
+        print(f"bunco: {words[0]} is no command: bunco --help lists them", file=sys.stderr)
+        return BAD_USE
+    with paged(command is not None):
+        columns = min(80, shutil.get_terminal_size().columns)
+        write((usage() if command is None else shown(page_of(command), columns)) + "\n")
+    return 0
+
+
+def completion(words: List[str]) -> int:
+    """Writes the completion for a shell, and answers the exit status."""
+    from ..terminal import write
+    from .completion import SHELLS
+
+    if len(words) != 1 or words[0] not in SHELLS:
+        print(f"usage: bunco completion {' | '.join(SHELLS)}", file=sys.stderr)
+        return BAD_USE
+    write(SHELLS[words[0]]())
+    return 0
+
+
+def version(words: List[str]) -> int:
+    from .. import __version__
+
+    print(f"bunco {__version__}")
+    return 0
+
+
+WORDS = {"help": help_on, "--help": help_on, "-h": help_on, "completion": completion, "--version": version}
 
 
 def main(arguments: Optional[List[str]] = None) -> int:
     """Runs the command that the words name, and answers its exit status: 2 where there is none of this name."""
     words = sys.argv[1:] if arguments is None else arguments
-    if words[:1] in (["--help"], ["-h"], ["help"]):
-        print(usage())
-        return 0
-    command = next((command for command in COMMANDS if words[:1] == [command.name]), None)
-    if command is None:
-        print(f"bunco: {words[0]} is no command" if words else usage(), file=sys.stderr)
+    if not words:
+        print(usage(), file=sys.stderr)
         return BAD_USE
-    return importlib.import_module(command.module).main(words[1:])
+    command = named(words[0])
+    if command is not None:
+        return command.load().main(words[1:])
+    if words[0] in WORDS:
+        return WORDS[words[0]](words[1:])
+    print(f"bunco: {words[0]} is no command: bunco --help lists them", file=sys.stderr)
+    return BAD_USE
