@@ -764,6 +764,7 @@ class UnderWay(Case):
         go = os.path.join(self.folder.name, "go")
         index = self.fake(deaf=[2, go], mark=self.mark)
         replies = [index.send_add(name, "", "") for name in "ab"]
+        self.assertFalse(index.settle(0))
         until(lambda: os.path.exists(self.mark))
         replies += [index.send_add(name, "", "") for name in "cd"]
         open(go, "w").close()
@@ -775,6 +776,7 @@ class UnderWay(Case):
     def test_killing(self):
         with self.fake(silent=3, mark=self.mark) as index:
             replies = [index.send_add(name, "", "") for name in "abcd"]
+            self.assertFalse(index.settle(0))
             until(lambda: os.path.exists(self.mark))
             index.kill()
             self.assertEqual([reply.answered for reply in replies], [True, True, False, False])
@@ -827,6 +829,137 @@ class UnderWay(Case):
         with open(self.mark) as file:
             os.kill(int(file.read()), signal.SIGKILL)
         self.fake().close()
+
+
+class SentAndWaitedFor(Case):
+    """Lines that are sent by one call and waited for by another, for so long as the caller says."""
+
+    def test_queries(self):
+        with self.fake() as index:
+            for name, title in [("a", "Red Fox"), ("b", "Fox"), ("c", "Hen")]:
+                index.add(name, title, "")
+            sent = [index.send_search("fox"), index.send_top("fox", 1), index.send_count("hen"), index.send_stats()]
+            sent += [index.send_open("NOT name:!"), index.send_explain("fox"), index.send_dump()]
+            self.assertEqual(index.under_way(), 7)
+            search, top, count, stats, opened, explained, dumped = sent
+            self.assertEqual((list(search.each()), search.result()), ([(1, "a"), (2, "b")], 2))
+            self.assertEqual(top.result(), ([(1, "a", 4)], 2))
+            self.assertEqual((count.result(), stats.result()), (1, (3, 4, 4)))
+            self.assertEqual(explained.result(), '"fox"\nfound D Wfox\n  x1 <= x0')
+            self.assertEqual((len(list(dumped.each())), dumped.result()), (3, 3))
+            cursor = opened.result()
+            first, rest = cursor.send_page(2), cursor.send_page(2)
+            self.assertEqual((first.result(), rest.result()), (([(1, "a"), (2, "b")], True), ([(3, "c")], False)))
+            closed = [cursor.send_close(), cursor.send_close()]
+            self.assertIsNone(closed[0].result())
+            with self.assertRaises(buncocedar.NoSuchCursor):
+                closed[1].result()
+            for send in (index.send_search, index.send_count, index.send_open, index.send_explain, lambda query: index.send_top(query, 1)):
+                with self.assertRaises(buncocedar.QueryFault):
+                    send("fault 8 Paren )").result()
+
+    def test_a_query_goes_at_once(self):
+        # Several indexes work at the same time: what is asked of one does not wait until another one has answered.
+        other = os.path.join(self.folder.name, "other.alta")
+        with self.fake(silent=1, mark=self.mark) as index, Index(other, create=True, program=FAKE) as second:
+            sent = [index.send_count("x"), second.send_count("x")]
+            until(lambda: os.path.exists(self.mark))
+            self.assertEqual([reply.wait(0.1) for reply in sent], [False, True])
+            index.kill()
+
+    def test_a_program_that_does_not_answer(self):
+        index = self.fake(silent=2)
+        first, second = index.send_add("a", "", ""), index.send_add("b", "", "")
+        self.assertTrue(first.wait(PATIENCE))
+        begun = time.monotonic()
+        self.assertFalse(second.wait(0.2))
+        self.assertFalse(index.settle(0.2))
+        self.assertEqual((index.under_way(), index.ended), (1, None))
+        with self.assertRaisesRegex(buncocedar.Ended, "x.alta: gave no answer in 0.2 seconds, and was killed") as raised:
+            index.close(0.2)
+        # Three waits of a fifth of a second: far from the seconds that a program has to end.
+        self.assertLess(time.monotonic() - begun, 4)
+        self.assertEqual(raised.exception.status, -signal.SIGKILL)
+        self.assertEqual((first.result(), second.answered, second.settled), (1, False, True))
+        self.assertIsInstance(index.ended, buncocedar.Ended)
+        index.close(0.2)
+        with self.fake() as index:
+            self.assertEqual(index.stats().documents, 1)
+
+    def test_a_program_that_is_stopped(self):
+        index = self.fake()
+        process = index._exchange.link.process
+        process.send_signal(signal.SIGSTOP)
+        reply = index.send_count("x")
+        self.assertFalse(reply.wait(0.1))
+        process.send_signal(signal.SIGCONT)
+        self.assertTrue(reply.wait(PATIENCE))
+        process.send_signal(signal.SIGSTOP)
+        with self.assertRaises(buncocedar.Ended):
+            index.close(0.1)
+        self.assertEqual(process.returncode, -signal.SIGKILL)
+
+    def test_a_program_that_does_not_end(self):
+        # It has answered all, and reads no end of its input.
+        index = self.fake()
+        process = index._exchange.link.process
+        process.send_signal(signal.SIGSTOP)
+        with self.assertRaisesRegex(buncocedar.Ended, "gave no answer in 0.1 seconds"):
+            index.close(0.1)
+        self.assertEqual(process.returncode, -signal.SIGKILL)
+
+    def test_waits_that_end_in_time(self):
+        index = self.fake()
+        index.send_add("a", "", "")
+        self.assertTrue(index.settle(PATIENCE))
+        index.close(PATIENCE)
+        self.assertIsInstance(index.ended, buncocedar.Closed)
+
+    def test_an_end(self):
+        index = self.fake(end=[1, 8])
+        self.assertIsNone(index.ended)
+        reply = index.send_add("a", "", "")
+        self.assertTrue(reply.wait(PATIENCE))
+        self.assertIsInstance(index.ended, buncocedar.Full)
+        # Whoever has looked at it has been told.
+        index.close()
+
+    def test_some_rows(self):
+        with self.fake(say=[1, "1 a\n2 b\n3 c\nfound 3"], slow=True) as index:
+            reply = index.send_search("x")
+            reply.wait(PATIENCE, rows=2)
+            self.assertGreaterEqual(len(reply.rows), 2)
+            self.assertTrue(reply.wait(PATIENCE, rows=4))
+            self.assertEqual(len(list(reply.each())), 3)
+
+    def test_changes_go_together(self):
+        with self.fake() as index, unittest.mock.patch.object(os, "write", side_effect=os.write) as write:
+            self.assertEqual(len(list(index.add_all((f"n{i}", "", "x") for i in range(3200)))), 3200)
+            # Half of 64 lines at a time, as soon as 64 are under way.
+            self.assertLessEqual(write.call_count, 110)
+            write.reset_mock()
+            # Lines of many bytes do not wait for others.
+            replies = [index.send_add(f"m{i}", "", "x" * 40_000) for i in range(3)]
+            self.assertGreaterEqual(write.call_count, 2)
+            index.settle()
+            write.reset_mock()
+            # A program that has nothing to do gets a line at once.
+            replies = [index.send_add("o", "", "x")]
+            self.assertEqual(write.call_count, 1)
+            replies += [index.send_add("p", "", "x"), index.send_add("q", "", "x")]
+            self.assertEqual(write.call_count, 1)
+            self.assertEqual([reply.result() for reply in replies], [3204, 3205, 3206])
+            self.assertEqual(write.call_count, 2)
+
+    def test_what_was_sent_by_an_index_that_is_dropped(self):
+        with self.assertWarns(ResourceWarning):
+            index = self.fake()
+            for number in range(40):
+                index.send_add(f"n{number}", "", "")
+            del index
+            gc.collect()
+        with self.fake() as index:
+            self.assertEqual(index.stats().documents, 40)
 
 
 class Opening(Case):

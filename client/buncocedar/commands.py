@@ -13,44 +13,17 @@ from __future__ import annotations
 from collections import deque
 from typing import Iterable, Iterator, List, Tuple, Union
 
-from .cursors import Cursor
 from .errors import BadName, Error, NotUtf8, Refused, UnknownCommand
-from .exchange import Exchange
 from .lines import LINE_LIMIT, add_line, too_long
-from .replies import (
-    ADDED,
-    CURSOR,
-    DELETED,
-    DUMP_END,
-    DUMPED,
-    FORMS,
-    FOUND,
-    OK,
-    ROWS,
-    SCORED,
-    STATS,
-    TEXTS,
-    Added,
-    Dumped,
-    Reply,
-    Row,
-    Skipped,
-    Stats,
-    Top,
-    first_number,
-    nothing,
-    query_in,
-    whole_line,
-)
-from .texts import name_ok, one_line, whole
+from .queries import Queries
+from .replies import ADDED, DELETED, FORMS, OK, Added, Reply, first_number, nothing, query_in, whole_line
+from .texts import name_ok, whole
 
 Document = Tuple[str, str, str]  # name, title and body
 
 
-class Commands:
+class Commands(Queries):
     """The calls that documents, queries and upkeep have, over an exchange of lines."""
-
-    _exchange: Exchange
 
     # -- Documents.
 
@@ -69,11 +42,15 @@ class Commands:
         return self.send_delete(name).result()
 
     def send_add(self, name: str, title: str, body: str, cut: bool = False) -> Reply:
-        """Sends what `add` sends, and answers its `Reply` at once, or when one of those under way has come."""
+        """Sends what `add` sends, and answers its `Reply`: at once, or when half of 64 that are under way have come.
+
+        While the program has others to do, what is sent goes to it together: once 64 wait or 64 kB, once a call of this index
+        waits or asks something, or by `settle(0)`.
+        """
         line, dropped = add_line(name, title, body, cut)
         line = line[:-1]
 
-        def made(last):
+        def made(last, rows):
             number = Added(last[1] or last[3])
             number.replaced = last[2] and int(last[2])
             number.dropped = dropped
@@ -82,7 +59,7 @@ class Commands:
         return self._exchange.send(line, f"add {name}", ADDED, made)
 
     def send_delete(self, name: str) -> Reply:
-        """Sends what `delete` sends, and answers its `Reply` at once, or when one of those under way has come."""
+        """Sends what `delete` sends, as `send_add` does, and answers its `Reply`."""
         if not name_ok(name):
             raise BadName("! bad name", ascii(name[:80]))
         return self._exchange.send(f"delete {name}".encode(), f"delete {name}", DELETED, first_number)
@@ -120,48 +97,6 @@ class Commands:
                 added += 1
         return added, refusals
 
-    # -- Queries.
-
-    def search(self, query: str) -> Iterator[Row]:
-        """The live documents that match, as an iterator of (number, name) in order of number. Raises `QueryFault`."""
-        reply = self._ask("search", query, FOUND, first_number, ROWS)
-        reply.begin()
-        return reply.each()
-
-    def top(self, query: str, count: int) -> Top:
-        """The `Top` answers by falling score, and of one score by rising number: at most `count` of them, 1 to 1,000.
-
-        Raises `QueryFault`, `BadLine` for another `count`, and `UnknownCommand` where the program is an older one.
-        """
-        reply = self._ask(f"top {whole(count, 'count')}", query, FOUND, first_number, SCORED)
-        found = reply.result()
-        return Top(list(reply.rows), found)
-
-    def count(self, query: str) -> int:
-        """How many live documents match. Raises `QueryFault`."""
-        return self._ask("count", query, FOUND, first_number).result()
-
-    def explain(self, query: str) -> str:
-        """The query's canonical spelling and, in the lines behind it, its plan. Raises `QueryFault`."""
-        # The reply's end shows only by the next reply's begin.
-        reply = self._ask("explain", query, STATS, nothing, TEXTS, behind=b"stats\n", after_refusal=True)
-        reply.result()
-        return "\n".join(reply.rows)
-
-    def cursor(self, query: str) -> Cursor:
-        """A `Cursor` over the documents that match now. Raises `QueryFault` and `TooManyCursors`."""
-        return Cursor(self, self._ask("open", query, CURSOR, first_number).result())
-
-    def stats(self) -> Stats:
-        """The `Stats` of the index."""
-        return self._say("stats", STATS, lambda last: Stats(int(last[1]), int(last[2]), int(last[3])))
-
-    def dump(self) -> Iterator[Union[Dumped, Skipped]]:
-        """The words of all live documents in order of number, as an iterator: a `Dumped` each, or a `Skipped` where they give no line."""
-        reply = self._exchange.send(b"dump", "dump", DUMP_END, first_number, DUMPED)
-        reply.begin()
-        return reply.each()
-
     # -- Upkeep.
 
     def flush(self) -> None:
@@ -195,7 +130,7 @@ class Commands:
             yield from reply.each_line()
 
     def send_line(self, line: bytes) -> Reply:
-        """Sends what `answer` sends, and answers its `Reply` at once, or when one of those under way has come.
+        """Sends what `answer` sends, an `add` and a `delete` as `send_add` does, and answers its `Reply`.
 
         Raises the `Refused` of a line that is not sent.
         """
@@ -210,13 +145,6 @@ class Commands:
         return self._exchange.send(line, word.decode(), last, whole_line, lines, query, b"stats\n" if explains else b"", explains)
 
     # -- Lines.
-
-    def _ask(self, word, query, last, made, lines=None, behind=b"", after_refusal=False):
-        query = one_line(query, "a query")
-        line = f"{word} {query}".encode()
-        if len(line) > LINE_LIMIT:
-            raise too_long(len(line), word)
-        return self._exchange.send(line, word, last, made, lines, query, behind, after_refusal)
 
     def _say(self, line, last, made):
         return self._exchange.send(line.encode(), line, last, made).result()

@@ -4,7 +4,7 @@ from __future__ import annotations
 
 from typing import Any, Iterator
 
-from .replies import CLOSED, PAGE_END, ROWS, Page, Row, nothing
+from .replies import CLOSED, PAGE_END, ROWS, Page, Reply, Row, nothing
 from .texts import whole
 
 
@@ -27,10 +27,12 @@ class Cursor:
 
     def page(self, count: int) -> Page:
         """The next `Page`, of at most so many rows, 1 to 1,000,000. Raises `NoSuchCursor` where it was closed."""
+        return self.send_page(count).result()
+
+    def send_page(self, count: int) -> Reply:
+        """Sends what `page` sends, and answers its `Reply`: its `result` is the `Page`."""
         line = f"fetch {self.number} {whole(count, 'count')}"
-        reply = self._exchange.send(line.encode(), line, PAGE_END, lambda last: last[0] == "more", ROWS)
-        more = reply.result()
-        return Page(list(reply.rows), more)
+        return self._exchange.send(line.encode(), line, PAGE_END, lambda last, rows: Page(list(rows), last[0] == "more"), ROWS)
 
     def pages(self, count: int) -> Iterator[Page]:
         """The pages up to the end, none of them empty."""
@@ -47,4 +49,9 @@ class Cursor:
 
     def close(self) -> None:
         """Gives the cursor back."""
-        self._exchange.send(f"close {self.number}".encode(), f"close {self.number}", CLOSED, nothing).result()
+        self.send_close().result()
+
+    def send_close(self) -> Reply:
+        """Sends what `close` sends, and answers its `Reply`."""
+        line = f"close {self.number}"
+        return self._exchange.send(line.encode(), line, CLOSED, nothing)

@@ -112,17 +112,29 @@ class Index(Commands):
         """How many lines were sent that have no reply yet: 64 at most."""
         return self._exchange.under_way()
 
-    def settle(self) -> None:
-        """Waits until every line that was sent is answered, or will not be."""
-        self._exchange.settle()
+    @property
+    def ended(self) -> Optional[Error]:
+        """How the program has ended, an `Ended`, or a `Closed` after `close`; None before a call has found that it has.
 
-    def close(self) -> None:
+        Whoever looks at it has been told.
+        """
+        self._exchange.told = self._exchange.told or self._exchange.end is not None
+        return self._exchange.end
+
+    def settle(self, seconds: Optional[float] = None) -> bool:
+        """Waits until every line that was sent is answered, or will not be, for so many seconds at most; tells whether it is so.
+
+        With 0 seconds it gives the program what waits for it, and takes what has come.
+        """
+        return self._exchange.settle(seconds)
+
+    def close(self, seconds: Optional[float] = None) -> None:
         """Waits until every line is answered, and ends the program.
 
         Raises its `Ended` where nothing raised it yet, or the first `Refused` of a line that was sent and whose reply nobody
-        has taken.
+        has taken. A program that does not end in so many `seconds` is killed, and an `Ended` says so.
         """
-        self._exchange.close()
+        self._exchange.close(seconds)
 
     def kill(self) -> None:
         """Ends the program at once. Of the lines without a reply the first one may be done, and no other."""

@@ -2,6 +2,7 @@
 
 from __future__ import annotations
 
+import contextlib
 import os
 import re
 import select
@@ -124,15 +125,21 @@ class Program:
     def ended(self):
         """Waits for the end, and answers its status and the line of it."""
         self.close_input()
-        try:
-            status = self.process.wait(SECONDS_TO_END)
-        except subprocess.TimeoutExpired:
+        status = self._status()
+        if status is None:
             self.kill()
-            status = self.process.wait()
+            status = self._status()
         self.said.take_all()
         self.process.stdout.close()
         self.process.stderr.close()
-        return status, self.said.line
+        # One that waits for its disk can't be killed before that answers.
+        return -signal.SIGKILL if status is None else status, self.said.line
+
+    def _status(self):
+        try:
+            return self.process.wait(SECONDS_TO_END)
+        except subprocess.TimeoutExpired:
+            return None
 
 
 class Service:
@@ -200,18 +207,29 @@ def connected(path):
     return None
 
 
-def let_go(link, path, owner):
-    """Ends the program of an index that nobody has any more, in the process that started it: what it took it answers."""
+def let_go(link, out, path, owner):
+    """Ends the program of an index that nobody has any more, in the process that started it: what was sent it answers."""
     if os.getpid() != owner:
         return
-    link.close_input()
     end = time.monotonic() + SECONDS_TO_END
-    poll = select.poll()
-    poll.register(link.output, select.POLLIN)
-    try:
-        while poll.poll(max(0, end - time.monotonic()) * 1000) and os.read(link.output, 1 << 16):
+    with contextlib.suppress(OSError):
+        while time.monotonic() < end and _goes_on(link, out, end - time.monotonic()):
             pass
-    except ConnectionResetError:
-        pass
     link.ended()
     warnings.warn(f"the index {path} was not closed", ResourceWarning, stacklevel=2)
+
+
+def _goes_on(link, out, seconds):
+    """Writes what waits, and then no more, and reads what comes, which nobody wants; tells whether there may be more."""
+    if not out and link.input is not None:
+        link.close_input()
+    poll = select.poll()
+    poll.register(link.output, select.POLLIN)
+    if out:
+        poll.register(link.input, select.POLLOUT | (select.POLLIN if link.input == link.output else 0))
+    for file, events in poll.poll(seconds * 1000):
+        if out and file == link.input and (events & select.POLLOUT or file != link.output):
+            del out[: os.write(file, out)]
+        if file == link.output and events & ~select.POLLOUT and not os.read(file, 1 << 16):
+            return False
+    return True

@@ -96,10 +96,14 @@ DUMPED = Lines(
 
 
 class Reply:
-    """The reply to a line that was sent. Replies come in the order of their lines."""
+    """The reply to a line that was sent. Replies come in the order of their lines.
+
+    Its value is made of the match of its last line and of the rows that nobody has taken before that.
+    """
 
     def __init__(self, exchange, line, command, last, made, lines=None, query=None, after_refusal=False):
         self.command = command
+        self.changes = last in (ADDED, DELETED)  # the line adds or deletes a document
         self.rows = deque()
         self.answered = False  # the program has given the whole reply, be it a refusal
         self.settled = False  # it is answered, or never will be
@@ -120,10 +124,18 @@ class Reply:
         self._exchange.untaken.pop(self, None)
         return self._error
 
+    def wait(self, seconds: Optional[float] = None, rows: Optional[int] = None) -> bool:
+        """Waits for the whole reply, for so many seconds at most, and tells whether it is settled: `result` does not wait then.
+
+        With `rows` it waits no longer than until so many rows are there that nobody has taken. With 0 seconds it takes what has
+        come. A reply that does not come in time may still come later.
+        """
+        self._exchange.turn_until(lambda: self.settled or (rows is not None and len(self.rows) >= rows), seconds)
+        return self.settled
+
     def result(self) -> Any:
         """Waits for the reply and gives its value, or raises its refusal, or the end of the program that came before it."""
-        while not self.settled:
-            self._exchange.turn()
+        self.wait()
         if not self.answered:
             self._exchange.told = True
         if self.error is not None:
@@ -145,8 +157,7 @@ class Reply:
 
     def begin(self) -> None:
         """Waits for the first line of the reply, and raises as `result` where there is no more to come."""
-        while not (self._begun or self.settled):
-            self._exchange.turn()
+        self._exchange.turn_until(lambda: self._begun or self.settled)
         if self.settled:
             self.result()
 
@@ -171,7 +182,7 @@ class Reply:
             return not self._after_refusal
         last = self._last.fullmatch(line)
         if last:
-            self._value = None if self._error else self._made(last)
+            self._value = None if self._error else self._made(last, self.rows)
             return True
         row = self._lines.form.fullmatch(line) if self._lines and not self._error else None
         if not row:
@@ -214,13 +225,13 @@ def query_in(line, word):
     return line.split(b" ", 2 if word == b"top" else 1)[-1].decode(errors="replace")
 
 
-def whole_line(last):
+def whole_line(last, rows):
     return last[0]
 
 
-def first_number(last):
+def first_number(last, rows):
     return int(last[1])
 
 
-def nothing(last):
+def nothing(last, rows):
     return None
