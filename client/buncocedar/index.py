@@ -19,7 +19,7 @@ from .commands import Commands
 from .errors import DiskFault, Error, NoFile, ServerEnded
 from .exchange import Exchange
 from .holders import Waiting, in_use, is_locked, turn
-from .links import Program, connected, default_program
+from .links import Program, Service, connected, default_program
 from .making import holds_bytes, make_index
 
 
@@ -111,6 +111,11 @@ class Index(Commands):
     def under_way(self) -> int:
         """How many lines were sent that have no reply yet: 64 at most."""
         return self._exchange.under_way()
+
+    @property
+    def by_server(self) -> bool:
+        """Whether a server has the index open for this client, so that others may have it too."""
+        return isinstance(self._exchange.link, Service)
 
     @property
     def ended(self) -> Optional[Error]:

@@ -1,0 +1,70 @@
+"""An index in several files: its shards, which stand on one machine or on many.
+
+    make("mail.shards", 8)
+    with ShardedIndex.here("mail.shards") as index:
+        index.add("first", "Red Fox", "the quick red fox")
+        for number, name in index.search('"red fox"'):
+            print(number, name)
+
+Each shard is an index of its own, with a file and a program of its own, and a document stands in the shard that its name says
+(`shard_of`). So each name is there once, and what the program promises of one file holds of each shard. An answer is put together
+of those of all shards, and equals that of one index with all documents: counts are added, rows are brought into one order, and the
+best are the best of each shard's best, since a score hangs on nothing but its document. An answer that lacks a shard is never given
+as a whole one: `Missing` is raised, and has what the others say.
+
+The number of a document is its number in its shard times 65,536, and the shard's: it stays when a shard moves to another machine.
+Rows go by age, which is the part of its shard's numbers that was given out before a document; nearly as they were added. What is
+lost beside one index is the one order of all changes, also in time: those of one client to one shard are done in its order, and of
+two shards nothing is said.
+
+A *shelf* has the shards of one folder, each with its program. A *place* is where a shelf is: this process, a process of its own,
+or a worker of dask.distributed (`buncocedar.dask_shards`). `python3 -m buncocedar.shards` makes, moves, splits and copies shards.
+"""
+
+from __future__ import annotations
+
+import os
+from typing import Any, Union
+
+from ..index import Index
+from .changes import Change
+from .errors import Missing, NotAnswered, NotHere, Stale
+from .folder import Settings, is_folder_of_shards, make, settings_of, shard_path, shards_in
+from .index import ShardedIndex
+from .names import MOST_SHARDS, age, number_of, own_number, shard_of
+from .queries import ShardedCursor
+from .shelf import Shelf
+
+__all__ = [
+    "Change",
+    "MOST_SHARDS",
+    "Missing",
+    "NotAnswered",
+    "NotHere",
+    "Settings",
+    "ShardedCursor",
+    "ShardedIndex",
+    "Shelf",
+    "Stale",
+    "age",
+    "is_folder_of_shards",
+    "make",
+    "number_of",
+    "open_index",
+    "own_number",
+    "settings_of",
+    "shard_of",
+    "shard_path",
+    "shards_in",
+]
+
+
+def open_index(path: Union[str, bytes, os.PathLike], create: bool = False, patience: float = 10.0, **words: Any) -> Union[Index, ShardedIndex]:
+    """The `Index` in a file, with the words that it takes, or the `ShardedIndex` where the path is a folder of shards.
+
+    A folder of shards is made by `make`, and not by `create`.
+    """
+    folder = os.fsdecode(path)
+    if os.path.isdir(folder) and is_folder_of_shards(folder):
+        return ShardedIndex.here(folder, program=words.get("program"), patience=patience)
+    return Index(path, create=create, patience=patience, **words)
