@@ -38,9 +38,9 @@ SHOWN = 5  # cases that are told in full
 # the statuses of a run, and the lines that may come with each
 TABLE = {
     0: "",
-    2: "alta: disk fault\n",
-    3: "alta: input fault\n",
-    4: "alta: output fault\n",
+    2: "alta: disk fault\nalta: .+: .+\n",
+    3: "alta: input fault\nalta: read: .+\n",
+    4: "alta: output fault\nalta: write: .+\n",
     5: "alta: out of memory\n",
     6: r"alta: damaged at \d+\n",
     7: "alta: no index\n",

@@ -81,7 +81,8 @@ class Launcher(unittest.TestCase):
             self.kept([*words, "index", "demo", "1"], *rows[0])
             for name in ("-", "--", "-n", "!", "(", "a b", "a\nb", " ", "*", "&1", "$HOME", "\u00e9"):
                 self.kept([*words, name, "init"], *rows[0])
-            self.assertEqual(done(*words, ".", "init", status=2, cwd=self.folder), "alta: disk fault\n")
+            said = done(*words, ".", "init", status=2, cwd=self.folder)
+            self.assertEqual(said, "alta: disk fault\nalta: open: Is a directory (os error 21)\n")
 
     def kept(self, words, content, status, said):
         """A file of this content, which the words name behind the launcher's, stays as it is where it is not made an index."""

@@ -37,7 +37,11 @@ def default_program() -> str:
 
 
 class Said:
-    """What the program says on its standard error. Its status line is kept; all else, as that it is built, is handed on."""
+    """What the program says on its standard error.
+
+    Its status line is kept, with the line behind it that says why a call of the system failed. All else is handed on, as that the
+    program is built.
+    """
 
     status_line = re.compile(
         "alta: (usage: .*|(disk|input|output) fault|out of memory|damaged at [0-9]+|no index|"
@@ -69,6 +73,8 @@ class Said:
     def _hear(self, line):
         if self.status_line.fullmatch(line):
             self.line = line
+        elif self.line and line.startswith("alta: "):
+            self.line += line[len("alta") :]
         else:
             print(line, file=sys.stderr)
 
