@@ -1,0 +1,114 @@
+#!/usr/bin/env python3
+"""Refuses a wrong body whose refusal shows nothing: tests/refusals.py [LOG]
+
+LOG is what `rt ci` or `rt must-fail` has printed; without it, this runs `rt must-fail` for all crates.
+
+Each wrong body is a file crates/NAME/must-fail/EDIT.edit. Its line `clause: WORD` names what it breaks: a clause of a contract
+(`lazy`), `returns` where the function's one clause has no name, or the label of the loop whose invariant it breaks. The prover's
+first line on an edit has to be about a goal of that clause, in one of two ways: the search does not prove the goal, or the
+arithmetic of its proof fails at values that the line gives. A refusal counts for nothing where a proof file names what the edit
+took away, where a proof file does not fit the new text, or where a goal of another clause fails first: a right body might be
+refused in the same way.
+"""
+
+import glob
+import os
+import re
+import subprocess
+import sys
+
+MOST = 110
+TRIED = re.compile(r"(?:rt: )?must-fail (\w+)/([\w.-]+)\.edit: (.*)")
+REFUSED = "refused, as it must be"
+NAMES = "only because a proof file names what the edit took away"
+CLAUSE = re.compile(r"^clause: (\S+)$", re.MULTILINE)
+OPEN = re.compile(r"it is not proved that .*?\(`([\w-]+)")
+FALSE = re.compile(r"error: `([\w-]+)`: `omega`: the goal ")
+
+
+def edits_in(top):
+    """The clause that each edit names, None where it names none, by (crate, edit)."""
+    found = {}
+    for path in glob.glob(os.path.join(top, "crates", "*", "must-fail", "*.edit")):
+        with open(path, encoding="utf-8") as file:
+            clauses = CLAUSE.findall(file.read())
+        crate = os.path.basename(os.path.dirname(os.path.dirname(path)))
+        found[crate, os.path.splitext(os.path.basename(path))[0]] = clauses[0] if len(clauses) == 1 else None
+    return found
+
+
+def is_of(goal, clause):
+    """Whether a goal is one of a clause, of a function's only clause (`returns`), or of the invariant of a loop."""
+    if clause == "returns":
+        return "returns" in goal.split("-") and "-clause-" not in goal
+    return f"-clause-{clause}-" in f"{goal}-" or any(f"-{clause}-{when}-" in f"-{goal}-" for when in ("init", "preserved"))
+
+
+def fault_of(said, clause):
+    """Why what the prover said of an edit does not show that the clause refuses it; None where it does."""
+    if clause is None:
+        return "it has not one line `clause: WORD`"
+    if not said.startswith(REFUSED):
+        return said[:120]
+    if NAMES in said:
+        return "refused by a name alone, which a proof file misses"
+    goal = OPEN.search(said) or FALSE.search(said)
+    if not goal:
+        return f"refused by the text of a proof, and no goal fails: {said[:200]}"
+    if not is_of(goal[1], clause):
+        return f"refused by `{goal[1]}`, and not by the clause {clause}"
+    return None
+
+
+def faults_in(lines, edits):
+    """What is wrong with the edits, of which each has to be in these lines."""
+    said = {(match[1], match[2]): match[3] for match in map(TRIED.match, lines) if match}
+    faults = [f"{crate}/{edit}: not tried" for crate, edit in sorted(edits.keys() - said.keys())]
+    for crate, edit in sorted(edits.keys() & said.keys()):
+        why = fault_of(said[crate, edit], edits[crate, edit])
+        faults += [f"{crate}/{edit}: {why}"] if why else []
+    return faults + ([f"{len(edits)} wrong bodies, where {MOST} are the most"] if len(edits) > MOST else [])
+
+
+def test_itself():
+    """A line for each way to be refused, with the clause that the edit names and whether that shows something."""
+    note = "refused, as it must be: note: src/a.rt:5:1: it is not proved that what the function ensures holds when it returns "
+    rows = [
+        (note + "(`returns-in-Some-clause-lazy`)", "lazy", True),
+        (note + "(`returns-clause-lazy-2`); `search` gave up", "lazy", True),
+        (note + "(`returns-clause-lazy`)", "more", False),
+        (note + "(`returns-then-n-lt256`)", "returns", True),
+        (note + "(`returns-clause-lazy`)", "returns", False),
+        ("refused, as it must be: note: src/a.rt:5:1: it is not proved that the invariant of the loop holds (`halve-preserved-then-to`)", "halve", True),
+        ("refused, as it must be: ./proofs/a/Answers.antt:8:3: error: `seek-requires-clause-near`: `omega`: the goal does not follow", "near", True),
+        ("refused, as it must be: ./proofs/a/Answers.antt:8:3: error: `returns-clause-near`: as printed, the two types differ", "near", False),
+        (f"refused, as it must be ({NAMES}, so this says little): proofs/a/Answers.antt:1:1: error: `returns-clause-near`: no name", "near", False),
+        ("NOT REFUSED: the crate is still proved with this edit", "near", False),
+        (note + "(`returns`)", None, False),
+    ]
+    for said, clause, shows in rows:
+        if (fault_of(said, clause) is None) != shows:
+            raise SystemExit(f"refusals: the check itself fails: {said} {clause}")
+    edits = {("a", "one"): "lazy", ("a", "two"): "lazy"}
+    if faults_in(["rt: must-fail a/one.edit: " + rows[0][0], "rt: a proved"], edits) != ["a/two: not tried"]:
+        raise SystemExit("refusals: the check itself fails: not tried")
+
+
+def main():
+    test_itself()
+    top = os.path.dirname(os.path.dirname(os.path.abspath(__file__)))
+    if len(sys.argv) > 1:
+        with open(sys.argv[1], encoding="utf-8", errors="replace") as file:
+            lines = file.read().splitlines()
+    else:
+        lines = subprocess.run(["rt", "must-fail"], cwd=top, stdout=subprocess.PIPE, text=True, errors="replace").stdout.splitlines()
+    edits = edits_in(top)
+    faults = faults_in(lines, edits)
+    for fault in faults:
+        print(f"refusals: {fault}")
+    print(f"refusals: {len(edits)} wrong bodies, {len(faults)} faults")
+    return 1 if faults else 0
+
+
+if __name__ == "__main__":
+    sys.exit(main())
