@@ -1,8 +1,8 @@
 #!/usr/bin/env python3
 """Reads what `rt ci` says with a clock, and tells what each crate has cost: its proof, its tests, and its must-fail edits.
 
-usage: rt ci 2>&1 | bench/gate.py [--to FILE] [--every SECONDS]
-       bench/gate.py --log FILE [--pid PID] [--to FILE] [--every SECONDS]
+usage: rt ci 2>&1 | bench/gate.py [--to FILE] [--every SECONDS] [--record FILE]
+       bench/gate.py --log FILE [--pid PID] [--to FILE] [--every SECONDS] [--record FILE]
        bench/gate.py --read FILE
 
 Hands the lines on as they come, and writes them to FILE with the seconds of the clock before each, which --read takes. While they
@@ -12,7 +12,8 @@ lines are those of a growing file, up to the gate's last one, and the process th
 
 Prints at the end a line for each crate, the dearest first: processor seconds and minutes by the clock of its proof, its tests and
 its edits, with the minute at which proof and tests stood, and how many edits there are; then the sums, and how long all took. Where the
-processes were not seen, as with --read, there are the minutes alone.
+processes were not seen, as with --read, there are the minutes alone. With --record the processor seconds of each crate go into a file of
+figures, from which bench/plot.py draws a picture.
 """
 
 import argparse
@@ -23,6 +24,8 @@ import signal
 import sys
 import time
 from typing import NamedTuple
+
+from recorded import record
 
 PROVED = re.compile(r"rt: (\w+)(: its tests are)? (NOT PROVED|proved|is kept: .*)\n?")
 TRIES = re.compile(r"rt: (\w+): trying its must-fail edits \((\d+)\)\n?")
@@ -253,6 +256,16 @@ def tell(said, costs):
         print(f"{(said.ended - said.begun) / 60:.1f} minutes, {whole / 60:.1f} of processor time seen: {said.last or 'no end'}")
 
 
+def record_costs(path, said, costs):
+    """Records the processor seconds of the crates, the dearest first."""
+    spent = {work: round(seconds) for work, (seconds, _) in costs.items()}
+    rows = [[crate, *(spent.get((crate, kind)) for kind in KINDS)] for crate in {crate for crate, _ in costs}]
+    rows.sort(key=lambda row: (-sum(value or 0 for value in row[1:]), row[0]))
+    series = ["proof", "tests", f"wrong bodies ({sum(said.edits.values())} in all)"]
+    panel = {"title": "processor time of each crate", "kind": "bars", "unit": "s", "series": series, "rows": rows}
+    record(path, f"What proving everything costs: {(said.ended - said.begun) / 60:.0f} minutes", [panel])
+
+
 def read_all(options):
     """Takes the lines as they come, and answers what was said and what the checks cost."""
     said, seen = Said(), Seen(options.every)
@@ -286,6 +299,7 @@ def main():
     parser.add_argument("--log", metavar="FILE", help="a file that the gate writes")
     parser.add_argument("--pid", type=int, help="the process of the gate that writes it")
     parser.add_argument("--read", metavar="FILE", help="what --to has written")
+    parser.add_argument("--record", metavar="FILE", help="a file of figures for bench/plot.py")
     options = parser.parse_args()
     if options.read:
         said = Said()
@@ -293,7 +307,10 @@ def main():
             said.take(at, line)
         tell(said, {})
     else:
-        tell(*read_all(options))
+        said, costs = read_all(options)
+        tell(said, costs)
+        if options.record:
+            record_costs(options.record, said, costs)
     return 0
 
 

@@ -95,17 +95,16 @@ def steps_up_to(most):
 
 
 def bars(panel, top):
-    """A row for each label, in it a bar for each series, with its value."""
+    """A row for each label, in it a bar for each series that has a value there."""
     marks, y = legend(panel["series"], top), top + LINE
     most = max(value for row in panel["rows"] for value in row[1:] if value is not None)
     left, wide = 190, WIDTH - 190 - 90
     for label, *values in panel["rows"]:
-        middle = y + BAR * len(values) / 2 + 4
-        marks.append(text(left - 8, middle, label, anchor="end"))
-        for style, value in zip(COLOURS, values):
-            if value is not None:
-                marks += [rectangle(left, y, max(1, wide * value / most), BAR - 2, style)]
-                marks += [text(left + wide * value / most + 5, y + BAR - 2, f"{short(value)} {panel['unit']}", "quiet")]
+        known = [(style, value) for style, value in zip(COLOURS, values) if value is not None]
+        marks.append(text(left - 8, y + BAR * len(known) / 2 + 4, label, anchor="end"))
+        for style, value in known:
+            marks += [rectangle(left, y, max(1, wide * value / most), BAR - 2, style)]
+            marks += [text(left + wide * value / most + 5, y + BAR - 2, f"{short(value)} {panel['unit']}", "quiet")]
             y += BAR
         y += 7
     marks.append(stroke(left, top + LINE - 4, left, y, "axis"))
