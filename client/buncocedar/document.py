@@ -21,7 +21,7 @@ class Document(NamedTuple):
 
     `place` is where it stands in its source, as `stamps.Place` spells it. `exact` says whether documents of one name and stamp
     are the same: where it is false, as of the size and time of a file, they are where they stand at one place of one source.
-    `former` is the stamp that the scripts of before gave it, where that was another one.
+    `former` is the stamp that an older version gave it, where that was another one.
     """
 
     wanted: str

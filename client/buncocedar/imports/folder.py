@@ -128,7 +128,7 @@ def files(top, without=frozenset(), selection=Selection(), latin=False):
 def parser():
     """What the words of the command may be."""
     parser = parser_of("folder", __doc__, ("FOLDER", "the folder of text files"))
-    parser.add_argument("--only", metavar="PATTERN", action="append", default=[], help="take only files of such names, as '*.txt'")
+    parser.add_argument("--only", metavar="PATTERN", action="append", default=[], help="take only files whose names match, as '*.txt'")
     parser.add_argument(
         "--skip", metavar="PATTERN", action="append", default=[], help=f"leave out such files and folders, besides {', '.join(SKIPPED)}"
     )

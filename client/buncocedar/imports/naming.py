@@ -136,7 +136,7 @@ class Naming:
         return not stands(source.path, place_of(document.place)) and has_content(document, known.content)
 
     def _name_it_gets(self, document, wanted):
-        """The first name that no other document has: it is free, or this one's of before."""
+        """The first name that no other document has: it is free, or was this document's before."""
         while True:
             number = self.numbers.get(wanted, 1)
             name = numbered(wanted, number)

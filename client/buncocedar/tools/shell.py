@@ -27,7 +27,7 @@ dump                the words of all documents, as lines that add them
 stats               how many documents and words there are, and the next number
 flush               writes the newest documents out of the journal
 merge               joins all levels to one
-step TERMS          a part of such a joining
+step TERMS          a part of a join of the two oldest levels
 help, quit          this text; the end, as Ctrl-D
 A query: words, "a phrase", qui*, title:fox, name:x, red NEAR/5 fox, AND, OR, NOT, ( )"""
 WORDS = [line.split()[0] for line in HELP.split("\n")[:14]] + ["help", "quit", "title:", "name:", "NEAR/", "AND", "OR", "NOT"]
