@@ -7,7 +7,7 @@ use Rattle.alta_machine.specs.Numbers.{number_in}
 use Rattle.alta_machine.specs.Terms.{range_terms}
 use Rattle.alta_text.specs.Words.{words_of}
 use Rattle.alta_machine.specs.declared.cell.Terms.{Terms}
-use Rattle.alta_machine.specs.declared.cell.Terms.TheVariants.{Empty, One, Two, Many}
+use Rattle.alta_machine.specs.declared.cell.Terms.TheVariants.{Empty, One, Two, Number}
 use Rattle.alta_machine.specs.declared.kinds.TheConstants.{WORD, WRITTEN, NAME, START, TITLE_END, DOCUMENT_END, WORD_LIMIT, CELL_LIMIT}
 
 -- the terms of a cell in order
@@ -15,7 +15,7 @@ abbrev pub terms_of : Terms → List (List ℕ)
 terms_of Empty = []
 terms_of (One only) = only ∷ []
 terms_of (Two first second) = first ∷ second ∷ []
-terms_of (Many terms) = terms.items
+terms_of (Number folding ranges) = folding ∷ ranges.items
 
 -- each term precedes the next
 abbrev pub AreInOrder : List (List ℕ) → Type 0

@@ -9,6 +9,7 @@ use crate::cell::Cell;
 use crate::kinds::{
     CELL_LIMIT, DOCUMENT_END, NAME, START, TITLE_END, WORD, WORD_LIMIT, WRITTEN, term,
 };
+use crate::terms::RangeTerm;
 use crate::{LEVELS, number};
 use alta_codec::{Bytes, name_ok};
 use alta_text::put_folded;
@@ -119,19 +120,17 @@ fn number_cell(alloc: Global, folding: Bytes, value: u32) -> Result<Cell, AllocE
     requires { slice_index folding 0 ≡ 87 }
     ensures { IfOk result (λ cell. cell ≡ folding ∷ range_terms value) }
 {
-    let mut terms = Vec::with_capacity(alloc, CELL_LIMIT)?;
-    terms.push(folding)?;
-    put_ranges(alloc, &mut terms, value)?;
-    Ok(Cell::many(terms))
+    let mut ranges = Vec::with_capacity(alloc, CELL_LIMIT - 1)?;
+    put_ranges(&mut ranges, value)?;
+    Ok(Cell::number(folding, ranges))
 }
 
 /// Adds the range terms of a number, those of the lowest level first.
-fn put_ranges(alloc: Global, terms: &mut Vec<Bytes>, value: u32) -> Result<(), AllocError>
-    ensures { OnOk result (terms.new.items ≡ terms.old.items ++ range_terms value) }
+fn put_ranges(ranges: &mut Vec<RangeTerm>, value: u32) -> Result<(), AllocError>
+    ensures { OnOk result (ranges.new.items ≡ ranges.old.items ++ range_terms value) }
 {
     for level in 0..LEVELS + 1 {
-        let bytes = Vec::from_array(alloc, crate::term(value, level))?;
-        terms.push(Bytes::from_vec(bytes))?;
+        ranges.push(crate::term(value, level))?;
     }
     Ok(())
 }

@@ -1,11 +1,13 @@
 // A cell of a document: its terms, which rise.
-// A cell is an enum of none, one, two or many terms, so that only that of a number has a vector of its own.
-ghost use Rattle.std.specs.Prelude.{◌≡◌, ◌∷◌, [], false, length, slice_get, take, IfSome};
+// A cell is an enum of none, one or two terms, or of a number's, so that only that of a number has a vector of its own. The range terms
+// of a number are all of one length, so they stand in one allocation.
+ghost use Rattle.std.specs.Prelude.{◌≡◌, ◌-◌, ◌<◌, ◌∷◌, [], false, length, slice_get, take, IfSome};
 ghost use Rattle.std.specs.Option.{option_copied};
 ghost use Rattle.std.specs.Str.{bytes_eq};
 ghost use Rattle.alta_codec.specs.Order.{Precedes};
 ghost use Rattle.alta_machine.specs.Cells.{IsCell, cell_holds, cell_begins, terms_of};
 
+use crate::terms::RangeTerm;
 use alta_codec::{Bytes, Len};
 use std::marker::Model;
 
@@ -20,7 +22,7 @@ enum Terms {
     Empty,
     One(Bytes),
     Two(Bytes, Bytes),
-    Many(Vec<Bytes>),
+    Number(Bytes, Vec<RangeTerm>),
 }
 
 impl Model for Cell {
@@ -53,7 +55,7 @@ impl Len for Cell {
             Terms::Empty => 0,
             Terms::One(_) => 1,
             Terms::Two(_, _) => 2,
-            Terms::Many(terms) => terms.len(),
+            Terms::Number(_, ranges) => 1 + ranges.len(),
         }
     }
 }
@@ -78,19 +80,18 @@ impl Cell {
         }
     }
 
-    /// The cell of these terms, without a copy.
-    pub fn many(terms: Vec<Bytes>) -> Cell
-        requires { IsCell terms.items }
-        ensures { result ≡ terms.items }
+    /// The cell of a number: the term of its folding, and behind it its range terms, without a copy.
+    pub fn number(folding: Bytes, ranges: Vec<RangeTerm>) -> Cell
+        requires { IsCell (folding ∷ ranges.items) }
+        ensures { result ≡ folding ∷ ranges.items }
     {
         Cell {
-            terms: Terms::Many(terms),
+            terms: Terms::Number(folding, ranges),
         }
     }
 
     /// The term at an index, which is none of those before it.
-    #[tactic(auto, using(crate::proofs::Apart::alone))]
-    pub fn get(&self, i: usize) -> Option<&Bytes>
+    pub fn get(&self, i: usize) -> Option<&[u8]>
         ensures value { option_copied result ≡ slice_get self.now i }
         ensures apart { IfSome result (λ term. cell_holds term.now (take i self.now) ≡ false) }
     {
@@ -105,7 +106,9 @@ impl Cell {
             Terms::Empty => false,
             Terms::One(only) => only.as_slice() == term,
             Terms::Two(first, second) => first.as_slice() == term || second.as_slice() == term,
-            Terms::Many(terms) => terms.iter().any(|held| held.as_slice() == term),
+            Terms::Number(folding, ranges) => {
+                folding.as_slice() == term || has_range(ranges, term)
+            }
         }
     }
 
@@ -115,9 +118,13 @@ impl Cell {
     {
         match &self.terms {
             Terms::Empty => false,
-            Terms::One(only) => is_kind(only, kind, rest),
-            Terms::Two(first, second) => is_kind(first, kind, rest) || is_kind(second, kind, rest),
-            Terms::Many(terms) => terms.iter().any(|held| is_kind(held, kind, rest)),
+            Terms::One(only) => is_kind(only.as_slice(), kind, rest),
+            Terms::Two(first, second) => {
+                is_kind(first.as_slice(), kind, rest) || is_kind(second.as_slice(), kind, rest)
+            }
+            Terms::Number(folding, ranges) => {
+                is_kind(folding.as_slice(), kind, rest) || has_range_of_kind(ranges, kind, rest)
+            }
         }
     }
 
@@ -131,28 +138,68 @@ impl Cell {
             Terms::Two(first, second) => {
                 first.as_slice().starts_with(prefix) || second.as_slice().starts_with(prefix)
             }
-            Terms::Many(terms) => terms.iter().any(|held| held.as_slice().starts_with(prefix)),
+            Terms::Number(folding, ranges) => {
+                folding.as_slice().starts_with(prefix) || range_begins(ranges, prefix)
+            }
         }
     }
 }
 
 /// The term at an index.
-fn term_at(terms: &Terms, i: usize) -> Option<&Bytes>
+fn term_at(terms: &Terms, i: usize) -> Option<&[u8]>
     ensures { option_copied result ≡ slice_get (terms_of terms.now) i }
 {
     match (i, terms) {
-        (0, Terms::One(first) | Terms::Two(first, _)) => Some(first),
-        (1, Terms::Two(_, second)) => Some(second),
-        (_, Terms::Many(terms)) => terms.get(i),
+        (0, Terms::One(first) | Terms::Two(first, _) | Terms::Number(first, _)) => {
+            Some(first.as_slice())
+        }
+        (1, Terms::Two(_, second)) => Some(second.as_slice()),
+        (_, Terms::Number(_, ranges)) => range_at(ranges, i),
         _ => None,
     }
 }
 
+/// The range term at an index, where the first of them stands at 1.
+fn range_at(ranges: &[RangeTerm], i: usize) -> Option<&[u8]>
+    requires { 0 < i }
+    ensures { option_copied result ≡ slice_get ranges.now (i - 1) }
+{
+    match ranges.get(i - 1) {
+        Some(range) => Some(range.as_slice()),
+        None => None,
+    }
+}
+
+/// Whether the term is one of these.
+fn has_range(ranges: &[RangeTerm], term: &[u8]) -> bool
+    ensures { result ≡ cell_holds term.now ranges.now }
+{
+    ranges.iter().any(|held| held.as_slice() == term)
+}
+
+/// Whether the term of this kind with this rest is one of these.
+fn has_range_of_kind(ranges: &[RangeTerm], kind: u8, rest: &[u8]) -> bool
+    ensures { result ≡ cell_holds (kind ∷ rest.now) ranges.now }
+{
+    ranges
+        .iter()
+        .any(|held| is_kind(held.as_slice(), kind, rest))
+}
+
+/// Whether one of these terms begins so.
+fn range_begins(ranges: &[RangeTerm], prefix: &[u8]) -> bool
+    ensures { result ≡ cell_begins prefix.now ranges.now }
+{
+    ranges
+        .iter()
+        .any(|held| held.as_slice().starts_with(prefix))
+}
+
 /// Whether the term is the one of this kind with this rest.
-fn is_kind(term: &Bytes, kind: u8, rest: &[u8]) -> bool
+fn is_kind(term: &[u8], kind: u8, rest: &[u8]) -> bool
     ensures { result ≡ bytes_eq term.now (kind ∷ rest.now) }
 {
-    match term.as_slice().split_first() {
+    match term.split_first() {
         Some((first, tail)) => *first == kind && tail == rest,
         None => false,
     }

@@ -38,6 +38,6 @@ pub use lists::{Cells, Documents};
 pub use numeral::number;
 pub use range::{LEVELS, Range};
 pub use scored::{Scored, ScoredList};
-pub use terms::{range_term, term};
+pub use terms::{RangeTerm, range_term, term};
 pub use test::{Test, Tests};
 pub use usage::{Use, Uses};

@@ -79,7 +79,7 @@ fn put_at(
 {
     match cell.get(i) {
         Some(term) => {
-            put(alloc, lists, term.as_slice(), location)?;
+            put(alloc, lists, term, location)?;
             Ok(())
         }
         None => Ok(()),

@@ -60,7 +60,7 @@ pub(crate) fn cells_of(alloc: Global, text: &str) -> Result<String, Fail> {
 fn put_terms(out: &mut Vec<u8>, cell: &Cell) -> Result<(), AllocError> {
     for i in 0..cell.len() {
         if let Some(term) = cell.get(i) {
-            put_term(out, i, term.as_slice())?;
+            put_term(out, i, term)?;
         }
     }
     Ok(())

@@ -8,7 +8,7 @@ use Rattle.alta_memlevel.proofs.lists.put_at.Goals as goal
 
 pub returns-in_ok-put-in-Some-clause-added : goal.returns-in_ok-put-in-Some-clause-added
 returns-in_ok-put-in-Some-clause-added c =
-    let t = c.as_slice.result.now in
+    let t = c.in-Some.term.now in
     let at : slice_get c.args.cell.now c.args.i ≡ Some t = search rules in
     let apart : cell_holds t (take c.args.i c.args.cell.now) ≡ false = search rules in
     λ base other e. c.in_ok-put-in-Some.ensures.added other ∙ ap (λ b. b ++ cond (bytes_eq t other) (c.args.location ∷ []) []) e ∙ once_new c.args.cell.now c.args.i c.args.location t other base c.requires.within at apart
