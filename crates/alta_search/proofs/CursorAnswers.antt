@@ -5,7 +5,7 @@ use Rattle.std.specs.List.{list_any}
 use Rattle.std.proofs.Math.ListN.{set}
 use Rattle.std.proofs.lemmas.Bool.{eq-eqb, ne_eqb, cases_eq, cond-true, cond-false}
 use Rattle.std.proofs.lemmas.List.{map_push}
-use Rattle.std.proofs.lemmas.List.Elements.{All-head, All-tail, All-filter}
+use Rattle.std.proofs.lemmas.List.Elements.{All-cons, All-head, All-tail, All-filter}
 use Rattle.std.proofs.lemmas.List.Kept.{AllPairs-filter}
 use Rattle.alta_compile.specs.Space.{Placed}
 use Rattle.alta_compile.specs.View.{tree}
@@ -203,6 +203,33 @@ work_at x (c ∷ cs) (suc i) d pairs at =
     let at_rest = back x i c cs d at in
     cond-false (c.number == x) (cursor_work c) (work_of x cs) (ne_eqb c.number x (other_first x i c cs d pairs at_rest))
     ∙ work_at x cs i d (pairs_tail c.number (map cursor_number cs) pairs) at_rest
+
+-- what is so of the cursor at the index is so of each that has the number
+pub all_at : (x : ℕ) (cs : List OpenCursor) (i : ℕ) (d : OpenCursor) (P : OpenCursor → Type 0) → AllPairs (λ a b. a ≢ b) (map cursor_number cs) → IsAt x cs i d
+    → P (get_or cs i d) → All (λ (c : OpenCursor). c.number ≡ x → P c) cs
+all_at x [] i d P pairs at h = absurd (let l = at.within in omega (arith, l))
+all_at x (c ∷ cs) zero d P pairs at h =
+    All-cons (λ (o : OpenCursor). o.number ≡ x → P o) c cs (λ _. h) (λ k e l is. absurd (others_behind c cs pairs k e l (is ∙ sym at.number)))
+all_at x (c ∷ cs) (suc i) d P pairs at h =
+    let at_rest = back x i c cs d at in
+    All-cons (λ (o : OpenCursor). o.number ≡ x → P o) c cs (λ is. absurd (other_first x i c cs d pairs at_rest is))
+    (all_at x cs i d P (pairs_tail c.number (map cursor_number cs) pairs) at_rest h)
+
+-- whether one has the number
+one_more : (b t : Bool) → t ≡ true → (b || t) ≡ true
+one_more true t h = refl
+one_more false t h = h
+
+pub any_at : (x : ℕ) (cs : List OpenCursor) (i : ℕ) (d : OpenCursor) → IsAt x cs i d → list_any (λ (c : OpenCursor). c.number == x) cs ≡ true
+any_at x [] i d at = absurd (let l = at.within in omega (arith, l))
+any_at x (c ∷ cs) zero d at = ap (λ (t : Bool). t || list_any (λ (o : OpenCursor). o.number == x) cs) (eq-eqb c.number x at.number)
+any_at x (c ∷ cs) (suc i) d at = one_more (c.number == x) _ (any_at x cs i d (back x i c cs d at))
+
+pub any_none : (x : ℕ) (cs : List OpenCursor) → All (λ c. c.number ≢ x) cs → list_any (λ (c : OpenCursor). c.number == x) cs ≡ false
+any_none x [] none = refl
+any_none x (c ∷ cs) none =
+    ap (λ (t : Bool). t || list_any (λ (o : OpenCursor). o.number == x) cs) (ne_eqb c.number x (All-head (λ (d : OpenCursor). d.number ≢ x) c cs none))
+    ∙ any_none x cs (All-tail (λ (d : OpenCursor). d.number ≢ x) c cs none)
 
 -- ---- a page
 

@@ -1,10 +1,11 @@
 // The open cursors of a run.
-ghost use Rattle.std.specs.Prelude.{◌≡◌, ◌≢◌, ◌↔◌, ℕ, ◌+◌, ◌<◌, ◌≤◌, ◌==◌, false, List, [], map, length, drop, All, AllPairs, HoldsAt, IsTrue, IsSome, IfSome, IfNone, IfOk, OnOk, OnErr};
+ghost use Rattle.std.specs.Prelude.{◌≡◌, ◌≢◌, ◌↔◌, ℕ, ◌+◌, ◌<◌, ◌≤◌, ◌==◌, false, not, List, [], ◌∷◌, ◌++◌, map, filter, length, drop, is_some, All, AllPairs, HoldsAt, IsTrue, IsSome, IfSome, IfNone, IfOk, OnOk, OnErr};
 ghost use Rattle.std.specs.List.{list_any};
 ghost use Rattle.alta_machine.specs.declared.document.Document.{Document};
 ghost use Rattle.alta_machine.specs.OpenAnswers.{OpenAnswers, first_free, least_free, left_of, with_opened, without_cursor};
 ghost use Rattle.alta_search.specs.Open.{AreLeft, AreOpen, IsPageOf, IsFetch, cursor_number, work_of};
 ghost use Rattle.alta_search.specs.Plans.{lists, locations};
+ghost use Rattle.alta_search.specs.Walked.{AreSearchSteps};
 
 use crate::cursor::Cursor;
 use crate::page::Page;
@@ -69,6 +70,8 @@ impl Cursors {
     pub fn open(&mut self, cursor: Cursor) -> Result<u64, AllocError>
         requires { length self.old < CURSORS }
         ensures opened { OnOk result ((all : List OpenAnswers) (documents : List Document) → AreOpen self.old all → AreLeft cursor documents → AreOpen self.new (with_opened documents all)) }
+        ensures free { IfOk result (λ number. number ≡ first_free (length self.old) 1 (map cursor_number self.old)) }
+        ensures pushed { IfOk result (λ number. self.new ≡ self.old ++ record { number = number; cursor = cursor } ∷ []) }
         ensures number { IfOk result (λ number. (all : List OpenAnswers) → AreOpen self.old all → number ≡ least_free all) }
         ensures range { IfOk result (λ number. (1 ≤ number) × (number ≤ CURSORS)) }
         ensures kept { OnErr result (self.new ≡ self.old) }
@@ -89,7 +92,10 @@ impl Cursors {
         steps: &mut Steps<L>,
     ) -> Result<Option<Page>, AllocError>
         ensures fetched { IfOk result (IsFetch number count self.old self.new) }
+        ensures there { IfOk result (λ page. is_some page ≡ list_any (λ c. c.number == number) self.old) }
+        ensures numbers { map cursor_number self.new ≡ map cursor_number self.old }
         ensures most { steps.new ≤ steps.old + work_of number self.old }
+        ensures steps { All (λ c. c.number ≡ number → AreSearchSteps c.cursor.found c.cursor.snapshot steps.old steps.new) self.old }
         ensures kept { OnErr result (self.new ≡ self.old) }
     {
         fetch_from(&mut self.cursors, alloc, number, count, steps)
@@ -97,6 +103,8 @@ impl Cursors {
 
     /// Closes the cursor with this number, and answers whether an open cursor had it. Where none had, all stay.
     pub fn close(&mut self, number: u64) -> bool
+        ensures has { result ≡ list_any (λ c. c.number == number) self.old }
+        ensures rest { self.new ≡ filter (λ c. not (c.number == number)) self.old }
         ensures had { (all : List OpenAnswers) → AreOpen self.old all → IsTrue result ↔ IsSome (left_of number all) }
         ensures closed { (all : List OpenAnswers) → AreOpen self.old all → AreOpen self.new (without_cursor number all) }
         ensures kept { result ≡ false → self.new ≡ self.old }
@@ -152,6 +160,7 @@ fn page_of<L: Ledger>(
 ) -> Result<Page, AllocError>
     ensures page { IfOk result (λ page. (left : List Document) → AreLeft cursor.old left → IsPageOf count left page × AreLeft cursor.new (drop count left)) }
     ensures most { steps.new ≤ steps.old + locations cursor.old.snapshot.cuts + lists cursor.old.snapshot.cuts }
+    ensures steps { AreSearchSteps cursor.old.found cursor.old.snapshot steps.old steps.new }
     ensures kept { OnErr result (cursor.new ≡ cursor.old) }
 {
     cursor.fetch(alloc, count, steps)
@@ -167,8 +176,10 @@ fn fetch_from<L: Ledger>(
 ) -> Result<Option<Page>, AllocError>
     requires { AllPairs (λ a b. a ≢ b) (map cursor_number cursors.old) }
     ensures fetched { IfOk result (IsFetch number count cursors.old cursors.new) }
+    ensures there { IfOk result (λ page. is_some page ≡ list_any (λ c. c.number == number) cursors.old) }
     ensures numbers { map cursor_number cursors.new ≡ map cursor_number cursors.old }
     ensures most { steps.new ≤ steps.old + work_of number cursors.old }
+    ensures steps { All (λ c. c.number ≡ number → AreSearchSteps c.cursor.found c.cursor.snapshot steps.old steps.new) cursors.old }
     ensures kept { OnErr result (cursors.new ≡ cursors.old) }
 {
     match place_of(cursors, number) {

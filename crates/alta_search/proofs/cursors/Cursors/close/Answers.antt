@@ -45,3 +45,23 @@ returns-clause-had c = λ all h.
 
 pub returns-clause-closed : goal.returns-clause-closed
 returns-clause-closed c = λ all h. open_kept c.args.number c.self.inside.cursors.items c.args.self.now c.retain.new.self.items all (kept c) c.self.view_is h
+
+has_is : (number : ℕ) (cursors now : List OpenCursor) (b : Bool) → b ≡ list_any (λ (o : OpenCursor). o.number == number) cursors → cursors ≡ now
+    → b ≡ list_any (λ (o : OpenCursor). o.number == number) now
+has_is number cursors now b is same = is ∙ ap (λ l. list_any (λ (o : OpenCursor). o.number == number) l) same
+
+pub returns-then-not-has-clause-has : goal.returns-then-not-has-clause-has
+returns-then-not-has-clause-has c =
+    sym c.if-not-has.true ∙ has_is c.args.number c.deref.result.now c.args.self.now c.has.result c.has.ensures (c.deref.ensures.value ∙ c.self.view_is)
+
+pub returns-then-not-has-clause-rest : goal.returns-then-not-has-clause-rest
+returns-then-not-has-clause-rest c =
+    none_has c.args.number c.args.self.now
+    (sym (has_is c.args.number c.deref.result.now c.args.self.now c.has.result c.has.ensures (c.deref.ensures.value ∙ c.self.view_is)) ∙ c.if-not-has.true)
+
+pub returns-clause-has : goal.returns-clause-has
+returns-clause-has c =
+    sym c.if-not-has.false ∙ has_is c.args.number c.deref.result.now c.args.self.now c.has.result c.has.ensures (c.deref.ensures.value ∙ c.self.view_is)
+
+pub returns-clause-rest : goal.returns-clause-rest
+returns-clause-rest c = kept c ∙ ap (λ l. filter (λ (o : OpenCursor). not (o.number == c.args.number)) l) c.self.view_is

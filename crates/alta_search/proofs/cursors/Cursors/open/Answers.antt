@@ -1,4 +1,4 @@
-use Rattle.std.proofs.Common.{◌≡◌, ◌<◌, length, sym, subst, ap, ◌∙◌}
+use Rattle.std.proofs.Common.{◌≡◌, ◌<◌, [], ◌∷◌, ◌++◌, length, sym, subst, ap, ◌∙◌}
 use Rattle.alta_search.specs.Open.{AreOpen}
 use Rattle.alta_machine.specs.declared.cursors.TheConstants.{CURSORS}
 use Rattle.alta_search.proofs.CursorAnswers.{free_in, free_range, numbers_opened, opened_is, same_free}
@@ -25,3 +25,9 @@ returns-clause-number c = λ all h. number_is c ∙ ap free_in c.self.view_is �
 
 pub returns-clause-range : goal.returns-clause-range
 returns-clause-range c = free_range c.self.inside.cursors.items c.free_number-number.result (number_is c) (few c)
+
+pub returns-clause-free : goal.returns-clause-free
+returns-clause-free c = number_is c ∙ ap free_in c.self.view_is
+
+pub returns-clause-pushed : goal.returns-clause-pushed
+returns-clause-pushed c = c.in_ok-push.ensures.items ∙ ap (λ l. l ++ record { number = c.free_number-number.result; cursor = c.args.cursor } ∷ []) c.self.view_is
