@@ -272,16 +272,16 @@ module _ (b : Catalog) (s : State) (f : Knows b s) (oldest : Option Tables) (n :
       (knows_then olds (subst (λ (rs : List DocRow). AreRowsOf rs olds) (rows_put new put) of) new put of)
 
   -- with the cells that they had, the documents that are left stay the same
-  abbrev kept : List Added
+  abbrev pub kept : List Added
   kept = filter (λ (a : Added). may.kept a.row) all
 
-  kept_are : AreRowsOf rows_then kept
+  pub kept_are : AreRowsOf rows_then kept
   kept_are = record {
     rows_are = map_filter row_of may.kept all ∙ ap (filter may.kept) (rows_of_all b s f) ∙ sym may.rows;
     counted = All-filter (λ (a : Added). may.kept a.row) IsCounted all counted;
   }
 
-  left_same : documents_left ends kept ≡ s.documents
+  pub left_same : documents_left ends kept ≡ s.documents
   left_same =
       ap (map document_in)
       (filter_alike (λ (a : Added). not (ends_among ends a.row)) (λ (a : Added). not (ends_among b.gone a.row)) kept

@@ -19,13 +19,13 @@ use Rattle.alta_joins.specs.Damages.{IsFirstDamage}
 use Rattle.alta_journal.specs.Entry.{KeepsRules}
 use Rattle.alta_journal.specs.declared.entry.Entry.{Entry}
 use Rattle.alta_machine.specs.declared.document.State.{State}
-use Rattle.alta_store.specs.Agreement.{Agrees, Has, Keeps}
+use Rattle.alta_store.specs.Agreement.{Agrees, Has, Keeps, MaySpeakOf, MaySpeakOfEither}
 use Rattle.alta_store.specs.Answers.{IsOutside}
 use Rattle.alta_store.specs.Calls.{BecomesEntered, Changes, FindsFirstDamage, GetsRoom, IsCause, NoRefusal, Obeys, joined_by, lacks_room}
 use Rattle.alta_store.specs.declared.fault.StoreFault.{StoreFault}
 use Rattle.alta_store.specs.declared.fault.StoreFault.TheVariants as faults
 use Rattle.alta_store.specs.declared.store.Store.{Store}
-use Rattle.alta_store.proofs.Agreements.{images_stand}
+use Rattle.alta_store.proofs.Agreements.{images_have, images_stand}
 use Rattle.alta_store.proofs.Room.{some_before}
 use Rattle.alta_table.specs.Tables.{Tables}
 
@@ -89,6 +89,8 @@ changes_idle tells work turns bytes joins a store u lawful agrees none same stil
   full = λ held need gap told has e. absurd (not_ok (faults.Full need gap) e);
   images = λ s stands. leaves_start tells a (StandsForEither s s) lawful (λ image here. inl (images_stand tells a s lawful agrees.settled stands image here));
   stands = λ s told stands. stands;
+  between = λ s speaks. leaves_start tells a (MaySpeakOfEither s s) lawful (λ image here. inl (images_have tells a (MaySpeakOf s) lawful agrees.settled speaks image here));
+  speaks = λ s told speaks. speaks;
   becomes = λ o told opened. (o, (still o told opened).0, opened, (still o told opened).1);
   lacks = λ o need gap told opened e. absurd (not_ok (faults.Full need gap) e);
   narrow = λ need gap told e. absurd (not_ok (faults.Full need gap) e);
@@ -118,6 +120,8 @@ changes_as {T} tells work work' turns turns' step refuses refuses' bytes joins a
   full = λ held need gap told has e. sym (same held told has) ∙ c.full held need gap told has e;
   images = c.images;
   stands = c.stands;
+  between = c.between;
+  speaks = c.speaks;
   becomes = λ o told opened. let w = c.becomes o told opened in (w.0, leads o (Ok w.0) told opened w.1, w.2, w.3);
   lacks = λ o need gap told opened e. leads o (Err (record { need = need; gap = gap })) told opened (c.lacks o need gap told opened e);
   narrow = c.narrow;
@@ -138,6 +142,8 @@ changes_as {T} tells work work' turns turns' step refuses refuses' bytes joins a
   full = λ held need gap told has e. sym (same held told has) ∙ c.full held need gap told has e;
   images = c.images;
   stands = λ s told stands. tt;
+  between = c.between;
+  speaks = λ s told speaks. tt;
   becomes = λ o told opened. tt;
   lacks = λ o need gap told opened e. leads o (Err (record { need = need; gap = gap })) told opened (c.lacks o need gap told opened e);
   narrow = c.narrow;
@@ -162,6 +168,8 @@ changes_ok {T} {X} tells work turns step refuses refuses' bytes joins a b store 
   full = λ held need gap told has e. absurd (not_ok (faults.Full need gap) e);
   images = c.images;
   stands = c.stands;
+  between = c.between;
+  speaks = c.speaks;
   becomes = c.becomes;
   lacks = λ o need gap told opened e. absurd (not_ok (faults.Full need gap) e);
   narrow = λ need gap told e. absurd (not_ok (faults.Full need gap) e);
@@ -196,6 +204,8 @@ changes_fault {T} {X} tells work turns step refuses refuses' bytes joins a b sto
   full = λ held need gap told has e. c.full held need gap told has (carried (faults.Full need gap) e);
   images = c.images;
   stands = λ s told stands. tt;
+  between = c.between;
+  speaks = λ s told speaks. tt;
   becomes = λ o told opened. tt;
   lacks = λ o need gap told opened e. c.lacks o need gap told opened (carried (faults.Full need gap) e);
   narrow = λ need gap told e. c.narrow need gap told (carried (faults.Full need gap) e);
@@ -266,6 +276,8 @@ changes_failed {T} tells work then turns next step refuses m n joins a b store m
   full = λ held need gap told has e. chain_err work then a.limit held (record { need = need; gap = gap }) (c.full held need gap told has (carried (faults.Full need gap) e));
   images = λ s stands. leaves_as a b (StandsForEither s s) (StandsForEither s (step s)) (c.images s stands) (λ image either. ⊎_elim (λ here. inl here) (λ here. inl here) either);
   stands = λ s told stands. tt;
+  between = λ s speaks. leaves_as a b (MaySpeakOfEither s s) (MaySpeakOfEither s (step s)) (c.between s speaks) (λ image either. ⊎_elim (λ here. inl here) (λ here. inl here) either);
+  speaks = λ s told speaks. tt;
   becomes = λ o told opened. tt;
   lacks = λ o need gap told opened e. (Err (record { need = need; gap = gap }), c.lacks o need gap told opened (carried (faults.Full need gap) e), refl);
   narrow = λ need gap told e. c.narrow need gap told (carried (faults.Full need gap) e);
@@ -306,6 +318,12 @@ module _ (tells : Type 0) (work then : Work) (turns next : Turns) (step : State 
       (leaves_as a b (StandsForEither s s) (StandsForEither s (step s)) (one.images s stands) (λ image either. ⊎_elim (λ here. inl here) (λ here. inl here) either))
       (two.images s (λ told. one.stands s told (stands told)))
 
+  between_then : {T : Type 0} (result : Result T StoreFault) → Changes tells then next step refuses n [] b c middle later result → (s : State) → (tells → MaySpeakOf s a.content) → LeavesOnly (MaySpeakOfEither s (step s)) a c
+  between_then result two s speaks =
+      leaves_then a b c (MaySpeakOfEither s (step s))
+      (leaves_as a b (MaySpeakOfEither s s) (MaySpeakOfEither s (step s)) (one.between s speaks) (λ image either. ⊎_elim (λ here. inl here) (λ here. inl here) either))
+      (two.between s (λ told. one.speaks s told (speaks told)))
+
   finds_then : {T : Type 0} (result : Result T StoreFault) → Changes tells then next step refuses n [] b c middle later result → tells → FindsFirstDamage refuses a.content joins result
   finds_then result two told = record {
     first = λ place e. absurd (two.unread told refl place e);
@@ -330,6 +348,8 @@ module _ (tells : Type 0) (work then : Work) (turns next : Turns) (step : State 
     full = λ held need gap told has e. let w = one.works held told has in chain_ok work then a.limit held w.0 w.1 ∙ ap (λ (limit : ℕ). then limit w.0) (sym one.costs.limit) ∙ two.full w.0 need gap told w.2 e;
     images = images_then (Ok x) two;
     stands = λ s told stands. two.stands s told (one.stands s told stands);
+    between = between_then (Ok x) two;
+    speaks = λ s told speaks. two.speaks s told (one.speaks s told speaks);
     becomes = λ o told opened.
         let w = one.becomes o told opened in
         let v = two.becomes w.0 told w.2 in
@@ -353,6 +373,8 @@ module _ (tells : Type 0) (work then : Work) (turns next : Turns) (step : State 
     full = λ held need gap told has e. let w = one.works held told has in chain_ok work then a.limit held w.0 w.1 ∙ ap (λ (limit : ℕ). then limit w.0) (sym one.costs.limit) ∙ two.full w.0 need gap told w.2 e;
     images = images_then (Err fault) two;
     stands = λ s told stands. tt;
+    between = between_then (Err fault) two;
+    speaks = λ s told speaks. tt;
     becomes = λ o told opened. tt;
     lacks = λ o need gap told opened e. absurd (no_want (Err fault) two need gap told e);
     narrow = λ need gap told e. absurd (no_want (Err fault) two need gap told e);

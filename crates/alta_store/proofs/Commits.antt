@@ -6,6 +6,7 @@ use Rattle.std.proofs.lemmas.List.Elements.{All-tail}
 use Rattle.alta_layout.specs.Places.{half_start}
 use Rattle.alta_layout.specs.declared.slot.Slot.{Slot}
 use Rattle.alta_catalog.specs.Knowing.{Follows, KnowsBy, gone_of}
+use Rattle.alta_catalog.proofs.KnownLaws.{entered as may_enter}
 use Rattle.alta_catalog.proofs.MayLaws.{may_be}
 use Rattle.alta_catalog.proofs.ReplaceLaws.{is_number, named_is}
 use Rattle.alta_codec.specs.Faults.{Rose}
@@ -24,7 +25,7 @@ use Rattle.alta_meaning.specs.Switching.{MayAppend, with_entry}
 use Rattle.alta_meaning.specs.Views.{View}
 use Rattle.alta_meaning.specs.Work.{enters, fits, needs_raise}
 use Rattle.alta_meaning.specs.Working.{entered}
-use Rattle.alta_meaning.proofs.AppendLaws.{opened_appended, stands_appended, stands_appending}
+use Rattle.alta_meaning.proofs.AppendLaws.{opened_appended, opened_appending, stands_appended, stands_appending}
 use Rattle.alta_meaning.proofs.Entering.{after_more}
 use Rattle.alta_meaning.proofs.HeldLaws.{held_appended}
 use Rattle.alta_meaning.proofs.SwitchLaws.{extents_clear}
@@ -46,12 +47,12 @@ use Rattle.alta_machine.specs.declared.document.State.{State}
 use Rattle.alta_root.specs.Root.{extents_of}
 use Rattle.alta_root.specs.declared.root.Root.{Root}
 use Rattle.alta_root.proofs.Frames.{counts_sound}
-use Rattle.alta_store.specs.Agreement.{Agrees, GoesOnOver, Has, IsJobIn, Keeps, Knows, MayGoOn, levels_of, room_of}
+use Rattle.alta_store.specs.Agreement.{Agrees, GoesOnOver, Has, IsJobIn, Keeps, Knows, MayGoOn, MaySpeakOf, MaySpeakOfEither, levels_of, room_of}
 use Rattle.alta_store.specs.Calls.{Enters, IsStepFrom, IsStepOf, NoRefusal, needs_room}
 use Rattle.alta_store.specs.declared.store.Store.{Store}
 use Rattle.alta_store.specs.declared.fault.StoreFault.{StoreFault}
 use Rattle.alta_store.specs.declared.fault.StoreFault.TheVariants.{Damaged as StoreDamaged, Disk as StoreDisk, Full as StoreFull}
-use Rattle.alta_store.proofs.Agreements.{kept, knows_of, opened_of}
+use Rattle.alta_store.proofs.Agreements.{kept, knows_of, knows_spoken, opened_of}
 use Rattle.alta_store.proofs.Changing.{finds_none, finds_outside, not_damaged}
 use Rattle.alta_store.proofs.GoingOn.{goes_on_over, goes_on_there}
 use Rattle.alta_store.proofs.Naming.{named_at, number_alike}
@@ -131,6 +132,17 @@ module _ (tells : Type 0) (a : DiskState) (lawful : IsLawful tells a) (store : S
           ⊎_elim (λ still. inl still) (λ more. inr (subst (λ (u : State). StandsFor u z) (after_is told) more))
           (stands_appending s entry a.content z was (may told was.opened is) (here told was.opened is z step)))
 
+      -- and may speak of the state before or after
+      either_speaks : (s t : State) → (tells → MaySpeakOf s a.content) → (tells → after_entry s entry ≡ t) → LeavesOnly (MaySpeakOfEither s t) a b
+      either_speaks s t speaks after_is =
+          leaves_from tells a lawful agrees.settled (MaySpeakOfEither s t)
+          (λ told. inl (speaks told)) b (Appends store.root.version (half_start store.tail.slot) store.tail.place entry) run
+          (λ told z step.
+          let was = speaks told in
+          ⊎_elim (λ still. inl (record { opened = was.opened; is = still; may = was.may }))
+          (λ more. inr (subst (λ (u : State). MaySpeakOf u z) (after_is told) (record { opened = with_entry was.opened entry; is = more; may = may_enter s was.opened entry was.may })))
+          (opened_appending was.opened entry a.content z was.is (may told was.opened was.is) (here told was.opened was.is z step)))
+
       -- a call of the disk failed
       pub enters_failed : {T : Type 0} (later : Store) (turn : State → State) → IsStepOf entry turn store → (fault : StoreFault) → fault ≡ StoreDisk → Rose a.faults b.faults → Costs 0 a b
           → Enters {T = T} tells entry turn a b store later (Err fault)
@@ -142,6 +154,8 @@ module _ (tells : Type 0) (a : DiskState) (lawful : IsLawful tells a) (store : S
         full = λ held need gap told has failed. absurd (not_full need gap failed);
         images = λ s stands. either s (turn s) stands (λ told. turns s (knows_of tells a store agrees s told (stands told)));
         stands = λ s told stands. tt;
+        between = λ s speaks. either_speaks s (turn s) speaks (λ told. turns s (knows_spoken tells a store agrees s told (speaks told)));
+        speaks = λ s told speaks. tt;
         becomes = λ o told opened. tt;
         lacks = λ o need gap told opened failed. absurd (not_full need gap failed);
         narrow = λ need gap told failed. absurd (not_full need gap failed);
@@ -273,6 +287,10 @@ module _ (tells : Type 0) (a : DiskState) (lawful : IsLawful tells a) (store : S
             full = λ held need gap told has failed. absurd (ok_fails x (StoreFull need gap) failed);
             images = λ s stands. either s (turn s) stands (λ told. turns s (knows_of tells a store agrees s told (stands told)));
             stands = λ s told stands. stands_after s (turn s) told stands (turns s (knows_of tells a store agrees s told stands));
+            between = λ s speaks. either_speaks s (turn s) speaks (λ told. turns s (knows_spoken tells a store agrees s told (speaks told)));
+            speaks = λ s told was.
+                subst (λ (u : State). MaySpeakOf u b.content) (turns s (knows_spoken tells a store agrees s told was))
+                (record { opened = with_entry was.opened entry; is = opened_more told was.opened was.is; may = may_enter s was.opened entry was.may });
             becomes = λ o told is. (with_entry o entry, refl, opened_more told o is, keeps_more told o is);
             lacks = λ o need gap told is failed. absurd (ok_fails x (StoreFull need gap) failed);
             narrow = λ need gap told failed. absurd (ok_fails x (StoreFull need gap) failed);

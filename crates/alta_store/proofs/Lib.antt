@@ -1,5 +1,6 @@
 pub mod Agreements
 pub mod Changing
+pub mod Coming
 pub mod Commits
 pub mod Flushing
 pub mod Formatted

@@ -23,7 +23,7 @@ use Rattle.alta_content.specs.declared.document.DocRow.{DocRow}
 use Rattle.alta_content.proofs.Kept.{rows_kept}
 use Rattle.alta_content.proofs.Rises.{Contains-head, Contains-tail}
 use Rattle.alta_disk.specs.Calls.{Costs}
-use Rattle.alta_disk.proofs.Moments.{leaves_start, passes_start}
+use Rattle.alta_disk.proofs.Moments.{leaves_as, leaves_start, passes_start}
 use Rattle.alta_disk.specs.Disk.{DiskState, IsLawful, LeavesOnly, Only, Passes}
 use Rattle.alta_meaning.specs.Entries.{after_entries}
 use Rattle.alta_meaning.specs.Holding.{Holding, IsHeld}
@@ -47,7 +47,7 @@ use Rattle.alta_merge.specs.Merging.{Merging}
 use Rattle.alta_machine.specs.declared.document.Document.{Document}
 use Rattle.alta_machine.specs.declared.document.State.{State}
 use Rattle.alta_rewrite.specs.Drafts.{rewrite_places}
-use Rattle.alta_rewrite.specs.Rewrites.{AgreesWith, HaveRows, IsRewritten, IsRewrittenOpened, MayRewrite, MayRewriteOpened, levels_to_come, rows_to_come, tables_in}
+use Rattle.alta_rewrite.specs.Rewrites.{AgreesWith, HaveRows, IsComing, IsRewritten, MayBecome, IsRewrittenOpened, MayRewrite, MayRewriteOpened, levels_to_come, rows_to_come, tables_in}
 use Rattle.alta_rewrite.specs.declared.ends.Ends.{Ends}
 use Rattle.alta_rewrite.specs.declared.fault.RewriteFault.{RewriteFault}
 use Rattle.alta_rewrite.specs.declared.fault.RewriteFault.TheVariants as rewrite_faults
@@ -55,13 +55,14 @@ use Rattle.alta_rewrite.specs.declared.levels.NextLevels.{NextLevels}
 use Rattle.alta_rewrite.specs.declared.rewriting.Rewritten.{Rewritten}
 use Rattle.alta_root.specs.declared.root.Root.{Root}
 use Rattle.alta_content.specs.All.{rows_of_levels}
-use Rattle.alta_store.specs.Agreement.{Agrees, GoesOnOver, IsIntact, Keeps, Knows, MayGoOn, levels_of}
+use Rattle.alta_store.specs.Agreement.{Agrees, GoesOnOver, IsIntact, Keeps, Knows, MayGoOn, MaySpeakOf, levels_of}
 use Rattle.alta_store.specs.Answers.{IsOutside, of_rewrite}
 use Rattle.alta_store.specs.Putting.{IsGivenBy, IsPut, MayPut, Puts, rows_of}
 use Rattle.alta_store.specs.declared.fault.StoreFault.{StoreFault}
 use Rattle.alta_store.specs.declared.fault.StoreFault.TheVariants as store_faults
 use Rattle.alta_store.specs.declared.store.Store.{Store}
-use Rattle.alta_store.proofs.Agreements.{kept}
+use Rattle.alta_store.proofs.Agreements.{images_have, kept, leaves_if}
+use Rattle.alta_store.proofs.Coming.{comes_may, rows_in_between, same_level, state_with}
 use Rattle.alta_store.proofs.GoingOn.{goes_on_over, goes_on_there}
 use Rattle.alta_table.specs.Tables.{Tables}
 use Rattle.alta_content.proofs.Elements.{all_left}
@@ -160,15 +161,35 @@ module _ (tells : Type 0) (a : DiskState) (before now : Store) (levels : NextLev
   pub may_rewrite_opened : (told : tells) (o : Opened) → IsOpened o a.content → (there : List Level) → HaveRows o there → IsGivenBy (view_of o there) levels → MayRewriteOpened o there levels ends next location a.content
   may_rewrite_opened told o is there have given = record { is = is; have = have; given = given ends next location (agrees_opened told o is there have) }
 
+  -- what comes may speak of each state of which the content may
+  comes_speak : (told : tells) (s : State) (speaks : MaySpeakOf s a.content) (coming : Opened) → IsComing a.limit speaks.opened coming levels ends next location → MayBe s coming
+  comes_speak told s speaks coming come =
+      comes_may before speaks.opened (kept before a.content (may.agrees.content told) speaks.opened speaks.is) levels may.kept may.rows may.gone ends next location (next_is ∙ may.drained.catalog.next) deleted_before a.limit coming come s speaks.may
+
 -- ---- the root was not switched
 
 module _ (tells : Type 0) (a b : DiskState) (before now : Store) (levels : NextLevels) (may : MayPut tells a before now levels) (prepared : PreparedLevels)
     (is_prepared : IsPrepared now.catalog levels.oldest.documents levels.stay_from levels.newest.documents prepared) (ends : Ends) (listed_is : ends.listed.now ≡ now.listed.items)
     (deleted_is : ends.deleted.now ≡ deleted_of prepared) (next location : ℕ) (next_is : next ≡ next_of now.catalog) (location_is : location ≡ location_of now.catalog)
-    (passes : Passes (λ old new. ⊤) a b) (stands : (held : Holding) → (tells → MayRewrite held levels ends next location a.content) → LeavesOnly (StandsFor (state_of held.view)) a b) where
+    (passes : Passes (λ old new. ⊤) a b) (stands : (held : Holding) → (tells → MayRewrite held levels ends next location a.content) → LeavesOnly (StandsFor (state_of held.view)) a b)
+    (lawful_a : IsLawful tells a) (opens : (o : Opened) → (there : List Level) → (tells → MayRewriteOpened o there levels ends next location a.content) → LeavesOnly (MayBecome a.limit o levels ends next location) a b) where
   images_put : (held : Holding) → (tells → IsHeld held a.content × IsGivenBy held.view levels) → LeavesOnly (StandsFor (state_of held.view)) a b
   images_put held has = stands held (λ told.
       may_rewrite tells a before now levels may prepared is_prepared ends listed_is deleted_is next location next_is location_is told held (has told).0 (has told).1)
+
+  between_put : (s : State) → (tells → MaySpeakOf s a.content) → LeavesOnly (MaySpeakOf s) a b
+  between_put s speaks = leaves_if tells a b (MaySpeakOf s) lawful_a passes (λ told.
+      let was = speaks told in
+      let given = may.given was.opened told was.is in
+      leaves_as a b (MayBecome a.limit was.opened levels ends next location) (MaySpeakOf s)
+      (opens was.opened given.0 (λ t.
+      may_rewrite_opened tells a before now levels may prepared is_prepared ends listed_is deleted_is next location next_is location_is told was.opened was.is given.0 given.1 given.2))
+      (λ image either. ⊎_elim (λ here. record { opened = was.opened; is = here; may = was.may })
+      (λ (coming, come, here). record {
+        opened = coming;
+        is = here;
+        may = comes_speak tells a before now levels may prepared is_prepared ends listed_is deleted_is next location next_is location_is told s was coming come;
+      }) either))
 
   module _ (fault : RewriteFault)
       (full : (held : Holding) → (job : Option Job) → tells → MayRewrite held levels ends next location a.content → (need gap : ℕ)
@@ -223,6 +244,7 @@ module _ (tells : Type 0) (a b : DiskState) (before now : Store) (levels : NextL
           (ap (λ (f : RewriteFault). Err f) (full_of {T = T} other need gap is e));
       passes = passes;
       images = images_put;
+      between = between_put;
       becomes = λ o there told opened have given. tt;
       lacks = λ o there need gap told opened have given e. lacks_is told o opened there have given need gap (full_of {T = T} other need gap is e);
       unwritten = λ need gap e. ap (λ (state : DiskState). state.content) (unwritten need gap (ap (λ (f : RewriteFault). Err f) (full_of {T = T} other need gap is e)));
@@ -249,6 +271,7 @@ put_nothing tells a lawful before now levels may later = record {
   passes = passes_start tells a (λ old new. ⊤) lawful (λ c. tt);
   images = λ held has. leaves_start tells a (StandsFor (state_of held.view)) lawful
       (λ z here. subst (StandsFor (state_of held.view)) (sym (may.agrees.settled z here)) (held_stands held a.content (has (lawful.told z here)).0));
+  between = λ s speaks. leaves_start tells a (MaySpeakOf s) lawful (images_have tells a (MaySpeakOf s) lawful may.agrees.settled speaks);
   becomes = λ o there told opened have given. tt;
   lacks = λ o there need gap told opened have given e. absurd (not_full need gap e);
   unwritten = λ need gap e. absurd (not_full need gap e);
@@ -265,10 +288,6 @@ put_nothing tells a lawful before now levels may later = record {
 
 -- ---- the root was switched
 
-same_level : (level : Option Tables) → tables_in level ≡ level_in level
-same_level None = refl
-same_level (Some level) = refl
-
 none_more : (n : ℕ) → n + 0 ≡ n
 none_more n = omega arith
 
@@ -277,9 +296,6 @@ levels_below : (c : Catalog) (s : State) → CatalogKnows c s → All (IsBefore 
 levels_below c s knows =
     subst (All (IsBefore c.next c.location)) knows.rows.rows_are
     (All-map (IsBefore c.next c.location) (λ (a : Added). a.row) knows.olds (all_left (λ (a : Added). IsBefore c.next c.location a.row) knows.olds knows.added knows.behind))
-
-state_with : ℕ → List Document → State
-state_with next documents = record { next = next; documents = documents }
 
 -- ends that are gone are among those of rows that end there
 row_there : (gone : List ℕ) (rows : List DocRow) (row : DocRow) → Contains rows row → ends_among gone row ≡ true → Contains (ends_in gone rows) (end_of row)
@@ -305,11 +321,6 @@ extents_between oldest newest n tables =
     map-append extent_of (level_in oldest) (drop n tables ++ level_in newest)
     ∙ ap₂ (λ (xs ys : List Extent). xs ++ ys) (ap (map extent_of) (sym (same_level oldest)))
     (map-append extent_of (drop n tables) (level_in newest) ∙ ap₂ (λ (xs ys : List Extent). xs ++ ys) (sym (drop-map extent_of n tables)) (ap (map extent_of) (sym (same_level newest))))
-
-rows_in_between : (oldest newest : Option Tables) (n : ℕ) (tables : List Tables) → table_rows (tables_between oldest n tables newest) ≡ rows_between (table_rows (level_in oldest)) n tables (table_rows (level_in newest))
-rows_in_between oldest newest n tables =
-    flat_map-append (λ (t : Tables). t.documents) (level_in oldest) (drop n tables ++ level_in newest)
-    ∙ ap (λ (rows : List DocRow). table_rows (level_in oldest) ++ rows) (flat_map-append (λ (t : Tables). t.documents) (drop n tables) (level_in newest))
 
 module _ (tells : Type 0) (a b : DiskState) (lawful_a : IsLawful tells a) (lawful_b : IsLawful tells b) (before now : Store) (levels : NextLevels) (may : MayPut tells a before now levels) (prepared : PreparedLevels)
     (is_prepared : IsPrepared now.catalog levels.oldest.documents levels.stay_from levels.newest.documents prepared) (ends : Ends) (listed_is : ends.listed.now ≡ now.listed.items)
@@ -442,7 +453,8 @@ module _ (tells : Type 0) (a b : DiskState) (lawful_a : IsLawful tells a) (lawfu
 
     module _ (durable : Only b.content b.images) (costs : Costs 1 a b) (passes : Passes (λ old new. ⊤) a b) (stands : (held : Holding) → (tells → MayRewrite held levels ends next location a.content) → LeavesOnly (StandsFor (state_of held.view)) a b)
         (works : (held : Holding) → (job : Option Job) → tells → MayRewrite held levels ends next location a.content → (then : Holding) × IsRewritten a.limit now.slot held levels job then done b.content)
-        (opened_then : (o : Opened) → (there : List Level) → tells → MayRewriteOpened o there levels ends next location a.content → (coming : Opened) × IsRewrittenOpened a.limit o coming levels ends next location done b.content) where
+        (opened_then : (o : Opened) → (there : List Level) → tells → MayRewriteOpened o there levels ends next location a.content → (coming : Opened) × IsRewrittenOpened a.limit o coming levels ends next location done b.content)
+        (opens : (o : Opened) → (there : List Level) → (tells → MayRewriteOpened o there levels ends next location a.content) → LeavesOnly (MayBecome a.limit o levels ends next location) a b) where
       abbrev opened_may : (told : tells) (o : Opened) → IsOpened o a.content → (there : List Level) → HaveRows o there → IsGivenBy (view_of o there) levels → MayRewriteOpened o there levels ends next location a.content
       opened_may told o is there have given = may_rewrite_opened tells a before now levels may prepared is_prepared ends listed_is deleted_is next location next_is location_is told o is there have given
 
@@ -469,7 +481,8 @@ module _ (tells : Type 0) (a b : DiskState) (lawful_a : IsLawful tells a) (lawfu
             (found.0, found.1.switched_is, found.1.is);
         full = λ held job need gap told has given e. absurd (not_ok (store_faults.Full need gap) e);
         passes = passes;
-        images = images_put tells a b before now levels may prepared is_prepared ends listed_is deleted_is next location next_is location_is passes stands;
+        images = images_put tells a b before now levels may prepared is_prepared ends listed_is deleted_is next location next_is location_is passes stands lawful_a opens;
+        between = between_put tells a b before now levels may prepared is_prepared ends listed_is deleted_is next location next_is location_is passes stands lawful_a opens;
         becomes = λ o there told is have given.
             let rewrites = opened_may told o is there have given in
             let come = opened_then o there told rewrites in

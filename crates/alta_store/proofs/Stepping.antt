@@ -34,13 +34,13 @@ use Rattle.alta_rewrite.specs.Rewrites.{Replaces, levels_to_come, no_content}
 use Rattle.alta_root.specs.declared.root.Root.{Root}
 use Rattle.alta_rewrite.specs.declared.levels.NextLevels.{NextLevels}
 use Rattle.alta_rewrite.proofs.JoinedLaws.{merge_is}
-use Rattle.alta_store.specs.Agreement.{Agrees, Has, IsIntact, IsJobIn, Keeps, levels_of}
+use Rattle.alta_store.specs.Agreement.{Agrees, Has, IsIntact, IsJobIn, Keeps, MaySpeakOf, MaySpeakOfEither, levels_of}
 use Rattle.alta_store.specs.Calls.{Becomes, JoinsAll, NoRefusal, Obeys, is_one}
 use Rattle.alta_store.specs.Putting.{IsDrained, MayPut, Puts}
 use Rattle.alta_store.specs.declared.fault.StoreFault.{StoreFault}
 use Rattle.alta_store.specs.declared.fault.StoreFault.TheVariants as faults
 use Rattle.alta_store.specs.declared.store.Store.{Store}
-use Rattle.alta_store.proofs.Agreements.{images_stand, kept}
+use Rattle.alta_store.proofs.Agreements.{images_have, images_stand, kept}
 use Rattle.alta_store.proofs.Changing.{costs_none, finds_none}
 use Rattle.alta_store.proofs.Flushing.{ObeysOver, step_reads, two_of}
 use Rattle.alta_store.proofs.Idling.{one_held}
@@ -147,6 +147,8 @@ module _ (tells : Type 0) (a : DiskState) (lawful : IsLawful tells a) (store : S
     full = λ held need gap told has e. absurd (not_ok (faults.Full need gap) e);
     images = λ s stands. leaves_start tells a (StandsForEither s s) lawful (λ image here. inl (images_stand tells a s lawful agrees.settled stands image here));
     stands = λ s told stands. stands;
+    between = λ s speaks. leaves_start tells a (MaySpeakOfEither s s) lawful (λ image here. inl (images_have tells a (MaySpeakOf s) lawful agrees.settled speaks image here));
+    speaks = λ s told speaks. speaks;
     becomes = λ o told is. (o, inl refl, is, keeps_join o (kept store a.content (agrees.content told) o is));
     lacks = λ o need gap told is e. absurd (not_ok (faults.Full need gap) e);
     narrow = λ need gap told e. absurd (not_ok (faults.Full need gap) e);

@@ -19,26 +19,18 @@ use Rattle.alta_merge.specs.Merging.{Merging}
 use Rattle.alta_machine.specs.declared.document.State.{State}
 use Rattle.alta_rewrite.specs.Rewrites.{levels_to_come}
 use Rattle.alta_rewrite.specs.declared.levels.NextLevels.{NextLevels}
-use Rattle.alta_store.specs.Agreement.{Agrees, GoesOnOver, Has, KeepsOpened, IsJobIn, Keeps, levels_of}
+use Rattle.alta_store.specs.Agreement.{Agrees, GoesOnOver, Has, KeepsOpened, IsJobIn, Keeps, MaySpeakOf, MaySpeakOfEither, levels_of}
 use Rattle.alta_catalog.specs.Knowing.{gone_of}
 use Rattle.alta_store.specs.Calls.{Changes, IsNarrow, IsRewrite, IsWork, NoRefusal}
 use Rattle.alta_store.specs.Putting.{IsGivenBy, IsPut, MayPut, Puts, ReadsLevels}
 use Rattle.alta_store.specs.declared.fault.StoreFault.{StoreFault}
 use Rattle.alta_store.specs.declared.fault.StoreFault.TheVariants as faults
 use Rattle.alta_store.specs.declared.store.Store.{Store}
+use Rattle.alta_store.proofs.Agreements.{leaves_if}
 use Rattle.alta_store.proofs.Changing.{Turns, Work, costs_more, finds_none, not_damaged, rose_later}
 use Rattle.alta_store.proofs.Holdings.{has_of}
 use Rattle.alta_store.proofs.Lacking.{narrow_rewrite}
 use Rattle.alta_table.specs.Tables.{Tables}
-
--- what is shown where the disk tells
-leaves_if : (tells : Type 0) (a b : DiskState) (P : List ℕ → Type 0) → IsLawful tells a → Passes (λ old new. ⊤) a b → (tells → LeavesOnly P a b) → LeavesOnly P a b
-leaves_if tells a b P lawful passes leaves = record {
-  later = passes.later;
-  each = λ z since. ⊎_elim (λ before. (leaves (lawful.told z (lawful.only_now z before))).each z since) (λ came. (leaves (lawful.told came.0 came.1)).each z since) (passes.between a.clock z (omega arith) since);
-  between = λ t z le since. ⊎_elim (λ before. inl before) (λ came. (leaves (lawful.told came.0 came.1)).between t z le since) (passes.between t z le since);
-  keeps = passes.keeps;
-}
 
 -- ---- levels put in place of others
 
@@ -60,6 +52,9 @@ module _ (tells : Type 0) (a b : DiskState) (lawful_a : IsLawful tells a) (lawfu
       leaves_if tells a b (StandsForEither s s) lawful_a puts.passes (λ told.
       let found = has_of tells a lawful_a store may.agrees told s (stands told) in
       leaves_as a b (StandsFor (state_of found.0.view)) (StandsForEither s s) (puts.images found.0 (λ told. (found.1.is, (switches found.0 told found.1).given))) (λ image here. inl (subst (λ (t : State). StandsFor t image) found.2 here)))
+
+  between_put : {T : Type 0} (result : Result T StoreFault) → Puts tells levels a b store later result → (s : State) → (tells → MaySpeakOf s a.content) → LeavesOnly (MaySpeakOfEither s s) a b
+  between_put result puts s speaks = leaves_as a b (MaySpeakOf s) (MaySpeakOfEither s s) (puts.between s speaks) (λ image here. inl here)
 
   -- what a rewrite comes to
   rewritten : (told : tells) (o : Opened) (is : IsOpened o a.content) (outcome : Result Opened Full) → IsPut a.limit levels (view_of o (may.given o told is).0) o outcome → IsRewrite a.limit kind o outcome
@@ -106,6 +101,8 @@ module _ (tells : Type 0) (a b : DiskState) (lawful_a : IsLawful tells a) (lawfu
     full = λ held need gap told has e. absurd (not_ok (faults.Full need gap) e);
     images = images_put (Ok x) puts;
     stands = λ s told was. ⊎_elim (λ here. here) (λ here. here) (leaves_now tells a b (StandsForEither s s) lawful_b (images_put (Ok x) puts s (λ t. was)) b.content (lawful_b.present told));
+    between = between_put (Ok x) puts;
+    speaks = λ s told was. leaves_now tells a b (MaySpeakOf s) lawful_b (puts.between s (λ t. was)) b.content (lawful_b.present told);
     becomes = λ o told is.
         let given = may.given o told is in
         let w = puts.becomes o given.0 told is given.1 given.2 in (
@@ -136,6 +133,8 @@ module _ (tells : Type 0) (a b : DiskState) (lawful_a : IsLawful tells a) (lawfu
     full = λ held need gap told has e. let to = switches held told has in to.is ∙ puts.full held to.job need gap told has.is to.given e;
     images = images_put (Err fault) puts;
     stands = λ s told was. tt;
+    between = between_put (Err fault) puts;
+    speaks = λ s told was. tt;
     becomes = λ o told is. tt;
     lacks = λ o need gap told is e. becomes_by o (Err (record { need = need; gap = gap })) (lacks_put (Err fault) puts o need gap told is e);
     narrow = narrow_put (Err fault) puts;
@@ -171,6 +170,10 @@ module _ (tells : Type 0) (a b : DiskState) (lawful_a : IsLawful tells a) (lawfu
   images_read s stands =
       leaves_from tells a lawful_a agrees.settled (StandsForEither s s) (λ told. inl (stands told)) b Same reads.images (λ told z same. inl (subst (StandsFor s) (sym same) (stands told)))
 
+  between_read : (s : State) → (tells → MaySpeakOf s a.content) → LeavesOnly (MaySpeakOfEither s s) a b
+  between_read s speaks =
+      leaves_from tells a lawful_a agrees.settled (MaySpeakOfEither s s) (λ told. inl (speaks told)) b Same reads.images (λ told z same. inl (subst (MaySpeakOf s) (sym same) (speaks told)))
+
 -- a change behind a call that read these levels, of which none is damaged
 pub changes_read : {T : Type 0} (tells : Type 0) (work : Work) (turns : Turns) (bytes : ℕ) (joins : List Tables) (a b c : DiskState) → IsLawful tells a → IsLawful tells b → (store later : Store) (result : Result T StoreFault) → Agrees tells a store
     → Reads tells (sum_by data_size joins) a b → (tells → (place : ℕ) → IsFirstDamage a.content joins place → ⊥) → Changes tells work turns (λ s. s) NoRefusal bytes [] b c store later result
@@ -185,6 +188,10 @@ changes_read {T} tells work turns bytes joins a b c lawful_a lawful_b store late
       leaves_then a b c (StandsForEither s s) (images_read tells a b lawful_a lawful_b store agrees (sum_by data_size joins) reads s stands)
       (change.images s (λ told. subst (StandsFor s) (sym (reads.content told)) (stands told)));
   stands = λ s told stands. change.stands s told (subst (StandsFor s) (sym (reads.content told)) stands);
+  between = λ s speaks.
+      leaves_then a b c (MaySpeakOfEither s s) (between_read tells a b lawful_a lawful_b store agrees (sum_by data_size joins) reads s speaks)
+      (change.between s (λ told. subst (MaySpeakOf s) (sym (reads.content told)) (speaks told)));
+  speaks = λ s told speaks. change.speaks s told (subst (MaySpeakOf s) (sym (reads.content told)) speaks);
   becomes = by_result_becomes result change;
   lacks = λ o need gap told is e. subst (λ (l : ℕ). turns l o (Err (record { need = need; gap = gap }))) limit (change.lacks o need gap told (subst (IsOpened o) (sym (reads.content told)) is) e);
   narrow = λ need gap told e. subst (λ (l : ℕ). IsNarrow l c.content need gap) limit (change.narrow need gap told e);
@@ -239,6 +246,8 @@ changes_unread {T} {X} tells work turns bytes joins a b lawful_a lawful_b store 
   full = λ held need gap told has e. absurd (no_full need gap e);
   images = images_read tells a b lawful_a lawful_b store agrees (sum_by data_size joins) read.reads;
   stands = λ s told stands. tt;
+  between = between_read tells a b lawful_a lawful_b store agrees (sum_by data_size joins) read.reads;
+  speaks = λ s told speaks. tt;
   becomes = λ o told opened. tt;
   lacks = λ o need gap told opened e. absurd (no_full need gap e);
   narrow = λ need gap told e. absurd (no_full need gap e);

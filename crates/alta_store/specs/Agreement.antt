@@ -1,5 +1,5 @@
 -- A store and its disk.
-use Rattle.std.specs.Prelude.{◌≡◌, ℕ, ◌≤◌, ◌<◌, true, List, Bool, map, Option, Some, None}
+use Rattle.std.specs.Prelude.{◌≡◌, ◌⊎◌, ℕ, ◌≤◌, ◌<◌, true, List, Bool, map, Option, Some, None}
 use Rattle.std.specs.List.{All}
 use Rattle.alta_layout.specs.declared.places.TheConstants.{HEAD_BYTES}
 use Rattle.alta_layout.specs.Places.{half_start}
@@ -45,6 +45,17 @@ pub record KeepsOpened (store : Store) (image : List ℕ) : Type 0 where
   pub opened : Opened
   pub is : IsOpened opened image
   pub keeps : Keeps store opened
+
+-- The image is opened as what may speak of the state, whatever the lists of its levels are: it has the state's next number, and the names,
+-- numbers and lengths of its documents; and of those that entries of the journal add the cells.
+pub record MaySpeakOf (s : State) (image : List ℕ) : Type 0 where
+  pub opened : Opened
+  pub is : IsOpened opened image
+  pub may : MayBe s opened
+
+-- the image may speak of one of two states
+abbrev pub MaySpeakOfEither : State → State → List ℕ → Type 0
+MaySpeakOfEither before later image = MaySpeakOf before image ⊎ MaySpeakOf later image
 
 -- A join may go on over the two oldest of these levels.
 abbrev pub MayGoOn : List Tables → List ℕ → Option Merging → Type 0

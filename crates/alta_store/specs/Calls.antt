@@ -32,7 +32,7 @@ use Rattle.alta_rewrite.specs.declared.ends.Ends.{Ends}
 use Rattle.alta_rewrite.specs.declared.levels.NextLevels.{NextLevels}
 use Rattle.alta_root.specs.Gaps.{IsLongestGap, taken_by}
 use Rattle.alta_root.specs.Root.{extents_of}
-use Rattle.alta_store.specs.Agreement.{Agrees, Has, Keeps, Knows, is_sound, levels_of, room_of}
+use Rattle.alta_store.specs.Agreement.{Agrees, Has, Keeps, Knows, MaySpeakOf, MaySpeakOfEither, is_sound, levels_of, room_of}
 use Rattle.alta_store.specs.Answers.{IsOutside}
 use Rattle.alta_store.specs.declared.fault.StoreFault.{StoreFault}
 use Rattle.alta_store.specs.declared.fault.StoreFault.TheVariants as faults
@@ -198,7 +198,11 @@ pub record Changes {T : Type 0} (tells : Type 0) (work : ℕ → Holding → Res
   -- at each moment an image stands for the state of before or the one after, and for the latter once it is done
   pub images : (s : State) → (tells → StandsFor s before.content) → LeavesOnly (StandsForEither s (step s)) before after
   pub stands : (s : State) → tells → StandsFor s before.content → OnOk result (StandsFor (step s) after.content)
-  -- what is opened then, and which place is wanting, on a disk that stands for no state too
+  -- on a disk that stands for no state too: of each state of which the content of before may speak, at each moment an image may speak of
+  -- it or of the one after, and of the latter once it is done
+  pub between : (s : State) → (tells → MaySpeakOf s before.content) → LeavesOnly (MaySpeakOfEither s (step s)) before after
+  pub speaks : (s : State) → tells → MaySpeakOf s before.content → OnOk result (MaySpeakOf (step s) after.content)
+  -- what is opened then, and which place is wanting, there too
   pub becomes : (o : Opened) → tells → IsOpened o before.content → OnOk result ((p : Opened) × turns before.limit o (Ok p) × IsOpened p after.content × Keeps later p)
   pub lacks : (o : Opened) (need gap : ℕ) → tells → IsOpened o before.content → result ≡ Err (faults.Full need gap) → turns before.limit o (Err (record { need = need; gap = gap }))
   -- each error comes from its cause

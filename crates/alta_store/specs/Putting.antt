@@ -22,7 +22,7 @@ use Rattle.alta_machine.specs.declared.document.State.{State}
 use Rattle.alta_rewrite.specs.Rewrites.{AgreesWith, HaveRows, IsGiven, levels_to_come}
 use Rattle.alta_rewrite.specs.declared.ends.Ends.{Ends}
 use Rattle.alta_rewrite.specs.declared.levels.NextLevels.{NextLevels}
-use Rattle.alta_store.specs.Agreement.{Agrees, Keeps, Knows, is_sound, levels_of}
+use Rattle.alta_store.specs.Agreement.{Agrees, Keeps, Knows, MaySpeakOf, is_sound, levels_of}
 use Rattle.alta_store.specs.Answers.{IsOutside}
 use Rattle.alta_store.specs.Calls.{ComesTo, FindsFirstDamage, NoRefusal}
 use Rattle.alta_store.specs.declared.fault.StoreFault.{StoreFault}
@@ -93,6 +93,7 @@ pub record Puts {T : Type 0} (tells : Type 0) (levels : NextLevels) (before afte
       → result ≡ Err (faults.Full need gap) → switched before.limit held (levels_to_come levels held.view) job ≡ Err (record { need = need; gap = gap })
   pub passes : Passes (λ old new. ⊤) before after
   pub images : (held : Holding) → (tells → IsHeld held before.content × IsGivenBy held.view levels) → LeavesOnly (StandsFor (state_of held.view)) before after
+  pub between : (s : State) → (tells → MaySpeakOf s before.content) → LeavesOnly (MaySpeakOf s) before after
   pub becomes : (o : Opened) (there : List Level) → tells → IsOpened o before.content → HaveRows o there → IsGivenBy (view_of o there) levels
       → OnOk result ((p : Opened) × IsPut before.limit levels (view_of o there) o (Ok p) × IsOpened p after.content × Keeps later p)
   pub lacks : (o : Opened) (there : List Level) (need gap : ℕ) → tells → IsOpened o before.content → HaveRows o there → IsGivenBy (view_of o there) levels

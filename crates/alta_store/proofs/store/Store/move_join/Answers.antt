@@ -40,6 +40,18 @@ returns-in-Ok-false g c =
     (undamaged_read tells (two_of store) a b c.in-Ok.job c.in-Ok.ensures.reads) c.requires.two c.in-Ok.job join c.args.n c.step_job.new.job c.in-Ok-false.ensures.moved
     (λ j is. sym (c.in-Ok-false.ensures.done j is) ∙ c.in-Ok-false.field-0-test) tt)
 
+-- memory was wanting for the step
+pub returns-in-Err-step_job : goal.returns-in-Err-step_job
+returns-in-Err-step_job g c =
+    let tells = g.D.Disk.tells in
+    let a = g.D.Disk.state c.args.disk.now in
+    let b = g.D.Disk.state c.take_join.new.disk in
+    let store = c.args.self.now in
+    let result : Result (Unit {0}) StoreFault = Err Memory in
+    subst (λ (joins : List Tables). ObeysOver tells (steps c.args.n) joins a b store c.take_join.new.self result) (sym (step_reads store c.requires.two))
+    (changes_unread {X = Unit {0}} tells _ _ 1 (two_of store) a b (g.met.D.Disk.lawful c.args.disk.now) (g.met.D.Disk.lawful c.take_join.new.disk) store c.take_join.new.self Memory c.requires.agrees
+    (segments_read tells a (g.met.D.Disk.lawful c.args.disk.now) store c.requires.agrees store.job) (memory_wanting tells (two_of store) a b c.in-Ok.ensures.reads.reads))
+
 pub returns-in-Err-drain : goal.returns-in-Err-drain
 returns-in-Err-drain g c =
     let tells = g.D.Disk.tells in
