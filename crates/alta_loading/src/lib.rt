@@ -19,6 +19,6 @@ pub use list::load_list;
 pub use loading::{load_test, load_tests};
 pub use mark::Ends;
 pub use meeting::terms_met;
-pub use snapshot::{load_ordered, load_snapshot};
+pub use snapshot::load_ordered;
 pub use term::load_term;
 pub use terms::load_terms;

@@ -3,7 +3,6 @@ ghost use Rattle.std.specs.Prelude.{◌≡◌, ◌⊎◌, ◌↔◌, ◌∷◌, 
 ghost use Rattle.alta_codec.specs.Rising.{IsRising};
 ghost use Rattle.alta_machine.specs.PlanOf.{plan_of};
 ghost use Rattle.alta_compile.specs.Space.{document_end};
-ghost use Rattle.alta_compile.specs.View.{tree};
 ghost use Rattle.alta_disk.specs.Disk.{DiskState};
 ghost use Rattle.alta_meaning.specs.Levels.{Level, documents_of};
 ghost use Rattle.alta_meaning.specs.Opened.{bytes_at};
@@ -24,7 +23,6 @@ ghost use Rattle.alta_machine.specs.declared.test.Test.{Test};
 ghost use Rattle.alta_search.specs.Documents.{AreToCome};
 ghost use Rattle.alta_search.specs.Newest.{HasAdded};
 ghost use Rattle.alta_search.specs.Order.{used};
-ghost use Rattle.alta_search.specs.Plans.{tests_of};
 ghost use Rattle.alta_search.specs.Shown.{ShowsDocuments};
 ghost use Rattle.alta_search.specs.Tops.{AreToRank};
 
@@ -35,54 +33,14 @@ use crate::laws::{
 use crate::loading::load_tests;
 use crate::mark::Ends;
 use alta_codec::Loc;
-use alta_compile::Plan;
 use alta_content::AllRows;
 use alta_disk::{Disk, LoadFault};
 use alta_level::is_end_term;
 use alta_machine::Test;
 use alta_memlevel::MemLevel;
-use alta_search::{Loading, Snapshot, loading_order};
+use alta_search::{Loading, Snapshot};
 use alta_table::OpenLevel;
 use std::alloc::Global;
-
-/// Loads what the search for a plan needs: of each test of the plan the lists of the terms that meet it, from the levels, the
-/// oldest first, and from the newest documents; with the rows of all documents, and a copy of the deleted ends. A test that
-/// the plan uses more than once is loaded once, where it is first used. Over the snapshot the answers of the plan of a query
-/// are those of the documents that match the query and are not deleted, where the levels are whole.
-///
-/// # Errors
-///
-/// `Damaged` exactly where one of the lists has a fault, at the first fault of the first list that has one, in the order of loading.
-/// `Disk` where a read failed. `Memory` where there was no memory for the lists.
-pub fn load_snapshot<D: Disk>(
-    alloc: Global,
-    disk: &mut D,
-    plan: &Plan,
-    levels: &[OpenLevel],
-    newest: &MemLevel,
-    rows: AllRows,
-    gone: &[Loc],
-) -> Result<Snapshot, LoadFault>
-    requires within { D.tells → All (λ level. LiesWithin level (D.state disk.old).content) levels.now }
-    requires newest { HasAdded newest.now }
-    requires rise { RowsPrecede (all_rows levels.now newest.now.content) }
-    requires rows { rows ≡ all_rows levels.now newest.now.content }
-    requires gone { IsRising gone.now }
-    ensures tests { IfOk result (λ snapshot. snapshot.tests ≡ tests_of (tree plan.now)) }
-    ensures view { D.tells → IfOk result (λ snapshot. snapshot ≡ loaded_view levels.now newest.now.content (D.state disk.old).content (tests_of (tree plan.now)) gone.now) }
-    // Levels that are the segments of contents are never damaged.
-    ensures undamaged { D.tells → (contents : List Level) → levels.now ≡ map tables_by contents
-        → All (λ level. IsSegment (bytes_at level.extent (D.state disk.old).content) level.content) contents → IfDamaged result (λ place. ⊥) }
-    // Over them the answers are the documents of the levels and the newest ones that match and are not deleted.
-    ensures answers { D.tells → IfOk result (λ snapshot. (contents : List Level) → (behind : List Document) → (q : Shape) → levels.now ≡ map tables_by contents
-        → All (λ level. IsSegment (bytes_at level.extent (D.state disk.old).content) level.content) contents → HasDocuments gone.now behind newest.now
-        → tree plan.now ≡ plan_of q → AreToCome (tree plan.now) snapshot 0 (answers (flat_map (documents_of gone.now) contents ++ behind) q)) }
-    ensures loads { ReadsLists D.tells (loads_of_tests levels.now newest.now.content (each_once (tests_of (tree plan.now)))) (D.state disk.old) (D.state disk.new) result }
-{
-    let order = loading_order(alloc, plan)?;
-    let mut ends = Ends::Untested;
-    load_ordered(alloc, disk, order, levels, &mut ends, newest, rows, gone)
-}
 
 /// Loads the lists of the tests of an order, of each test those of the terms that meet it, from the levels, the oldest first, and
 /// from the newest documents; with the rows of all documents, and a copy of the deleted ends. Each test is loaded once, however many
@@ -91,7 +49,8 @@ pub fn load_snapshot<D: Disk>(
 ///
 /// # Errors
 ///
-/// Those of [`load_snapshot`].
+/// `Damaged` exactly where one of the lists has a fault, at the first fault of the first list that has one, in the order of loading.
+/// `Disk` where a read failed. `Memory` where there was no memory for the lists.
 pub fn load_ordered<D: Disk>(
     alloc: Global,
     disk: &mut D,

@@ -14,6 +14,7 @@ use Rattle.alta_meaning.specs.Broken.{IsBrokenAt}
 use Rattle.alta_meaning.specs.Holding.{Holding, IsHeld, IsJobOf}
 use Rattle.alta_session.specs.Agreement.{AgreesOn}
 use Rattle.alta_session.specs.Fullness.{IsFullExactly}
+use Rattle.alta_session.specs.Kept.{HoldsAnswered}
 use Rattle.alta_machine.specs.Machine.{Machine, started_at}
 use Rattle.alta_session.specs.Progress.{StandsAfterSome}
 use Rattle.alta_replies.specs.Loading.{newest_in}
@@ -24,8 +25,10 @@ use Rattle.alta_session.specs.declared.session.Session.{Session}
 use Rattle.alta_session.specs.declared.status.Status.{Status}
 use Rattle.alta_session.specs.declared.status.Status.TheVariants.{Damaged, DiskFault, Done, Full, TooLong}
 use Rattle.alta_session.proofs.FullnessLaws.{full_exactly}
+use Rattle.alta_session.proofs.MachineLaws.{length_replies}
 use Rattle.alta_session.proofs.ProgressLaws.{some_none}
 use Rattle.alta_meaning.specs.Standing.{StandsFor, view_of}
+use Rattle.alta_meaning.specs.Views.{state_of}
 use Rattle.alta_meaning.specs.Work.{Job}
 use Rattle.alta_merge.specs.Merging.{Merging}
 use Rattle.alta_meaning.specs.Opened.{Opened, IsOpened}
@@ -117,11 +120,22 @@ levels_before limit d m e session run status start held same_limit runs here all
     subst (λ (n : ℕ). IsWorked (worked_lines n start held (lines_in limit run)) (IsOn e.content)) same_limit (runs.levels held here all).0
 
 -- what an image that stands for a state has
-held_of : (s : State) (image : List ℕ) → StandsFor s image → (held : Holding) × IsFirst image held
+pub held_of : (s : State) (image : List ℕ) → StandsFor s image → (held : Holding) × IsFirst image held × (state_of held.view ≡ s)
 held_of s image stands = (
   record { view = view_of stands.opened stands.means.levels; list = stands.opened.root.deletions; job = None },
   record { is = record { opened = stands.opened; is = opened_of s image stands; are = stands.means.are; view_is = refl; list_is = refl }; none = refl },
+  stands.means.state_is,
 )
+
+-- what an image keeps that holds what was answered, and no reply behind it
+pub holds_answered : (limit : ℕ) (start : Machine) (run : List Event) (image : List ℕ) → KeepsAnswered limit start run image → HoldsAnswered start (lines_in limit run) (given_in run) image
+holds_answered limit start run image keeps = record {
+  reached = keeps.stands.reached;
+  within = keeps.stands.within;
+  stands = keeps.stands.stands;
+  answered = λ n within begins.
+      omega (arith, keeps.is_acked.greatest n (omega (arith, within, length_replies start (lines_in limit run))) begins, keeps.stands.least);
+}
 
 -- by the levels and newest documents of what was opened
 spends_opened : (d e : DiskState) (session : Session) (m : Machine) (lines : List (List ℕ)) (o : Opened) → Keeps session.store o → Spends d e session m lines → All OnlyReads lines → e.taken ≤ d.taken + lines_bytes o.levels (newest_of_opened o) m lines

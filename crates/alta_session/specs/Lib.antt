@@ -10,6 +10,7 @@ pub mod Fullness
 pub mod Going
 pub mod Joining
 pub mod Keeping
+pub mod Kept
 pub mod Outcomes
 pub mod Progress
 pub mod Restoring

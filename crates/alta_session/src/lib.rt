@@ -9,7 +9,10 @@ mod session;
 mod status;
 mod top;
 
-pub use laws::{a_line_keeps_a_state, a_search_answers_what_matches, the_lines_of_a_dump_restore};
+pub use laws::{
+    a_line_keeps_a_state, a_search_answers_what_matches, the_lines_of_a_dump_restore,
+    what_stands_is_held, what_was_answered_is_kept,
+};
 pub use serving::serve;
 pub use session::Session;
 pub use status::{Status, status_line};

@@ -18,7 +18,7 @@ use alta_loading::*;
 use alta_machine::{Test, cells};
 use alta_memlevel::MemLevel;
 use alta_query::{Query, parse};
-use alta_search::{Page, Snapshot, search};
+use alta_search::{Page, Snapshot, loading_order, search};
 use alta_table::OpenLevel;
 use std::alloc::{AllocError, Global};
 use std::marker::Brand;
@@ -168,7 +168,18 @@ fn load(
     let rows = shared(alloc, rows_of(alloc, &levels, &newest)?)?;
     let image = image_of(alloc, OLD, NEW, changes)?;
     let mut disk = MemoryDisk::new(alloc, image, 1000, Vec::new(alloc));
-    Ok(load_snapshot(alloc, &mut disk, plan, &levels, &newest, rows, &[16]))
+    let order = loading_order(alloc, plan)?;
+    let mut ends = Ends::Untested;
+    Ok(load_ordered(
+        alloc,
+        &mut disk,
+        order,
+        &levels,
+        &mut ends,
+        &newest,
+        rows,
+        &[16],
+    ))
 }
 
 // The names on a page.
