@@ -14,7 +14,7 @@ import zipfile
 
 HERE = os.path.dirname(os.path.abspath(__file__))
 PACKAGE = "buncocedar"
-ENDS = (".py", ".typed")
+ENDS = (".py", ".typed", ".css", ".js", ".svg")
 
 
 class UnsupportedOperation(Exception):

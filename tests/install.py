@@ -18,7 +18,7 @@ import unittest
 
 TOP = os.path.dirname(os.path.dirname(os.path.abspath(__file__)))
 PROGRAM = None
-COMMANDS = ("init", "mail", "folder", "packages", "find", "shell", "serve", "status", "check", "compact", "dump")
+COMMANDS = ("init", "mail", "folder", "packages", "find", "shell", "web", "serve", "status", "check", "compact", "dump")
 FORMER = ("mail", "folder", "packages", "find", "shell", "server", "check", "compact")  # names that go with the next version
 PATIENCE = 300  # seconds after which what should have come counts as missing
 

@@ -64,7 +64,7 @@ FACTS = {
             Item("2", "it has a fault, or the words of the command are wrong"),
             Item("3", "the index could not be asked"),
         ],
-        ("shell", *SOURCES),
+        ("web", "shell", *SOURCES),
     ),
     "shell": (
         [INDEX, STATE],
@@ -77,11 +77,12 @@ FACTS = {
         ],
         ("find", "dump"),
     ),
+    "web": ([INDEX, STAMPS, SOCKET], [PROGRAM], DONE, ("find", "serve")),
     "serve": (
         [INDEX, SOCKET],
         [PROGRAM],
         [Item("0", "it was asked to end"), Item("3", "the index could not be opened, or the program has ended")],
-        ("find", "status"),
+        ("web", "find", "status"),
     ),
     "status": ([INDEX, STAMPS, SOCKET], [PROGRAM], DONE, ("check", "serve")),
     "check": (

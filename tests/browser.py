@@ -1,0 +1,145 @@
+"""A headless Chromium over its own protocol (Chrome DevTools Protocol, by a pipe), for the tests of the page."""
+
+import base64
+import contextlib
+import itertools
+import json
+import os
+import shutil
+import subprocess
+import tempfile
+import time
+
+from support import PATIENCE
+
+KEYS = {"Enter": (13, "\r"), "ArrowDown": (40, ""), "ArrowUp": (38, ""), "Escape": (27, ""), "/": (191, "/"), "j": (74, "j"), "k": (75, "k")}
+
+
+def chromium():
+    """The path of the browser, None where there is none."""
+    return shutil.which("chromium") or shutil.which("chromium-browser")
+
+
+class Browser:
+    """One browser with one page, in a `with`."""
+
+    def __init__(self):
+        self.numbers = itertools.count(1)
+        self.rest = b""
+        self.events = []
+        self.session = None
+
+    def __enter__(self):
+        self.folder = tempfile.mkdtemp(prefix="bunco-browser-")
+        to_it, self.to = os.pipe()
+        self.from_it, from_it = os.pipe()
+        words = [chromium(), "--headless=new", "--disable-gpu", "--no-first-run", "--disable-background-networking"]
+        words += ["--remote-debugging-pipe", f"--user-data-dir={self.folder}"]
+        # Its sandbox does not run for the system's own user.
+        words += ["--no-sandbox"] if os.geteuid() == 0 else []
+
+        def as_it_wants():
+            # It reads from the file 3, and writes to the file 4; neither may be in the other's way.
+            read, write = os.dup(to_it), os.dup(from_it)
+            os.dup2(read, 3)
+            os.dup2(write, 4)
+
+        self.process = subprocess.Popen(words, preexec_fn=as_it_wants, close_fds=False, stderr=subprocess.DEVNULL)
+        os.close(to_it)
+        os.close(from_it)
+        target = self.call("Target.createTarget", url="about:blank")["targetId"]
+        self.session = self.call("Target.attachToTarget", targetId=target, flatten=True)["sessionId"]
+        for domain in ("Page", "Runtime", "Log", "DOM"):
+            self.call(f"{domain}.enable")
+        return self
+
+    def __exit__(self, *what):
+        with contextlib.suppress(OSError, AssertionError):
+            self.session = None
+            self.call("Browser.close")
+        self.process.kill()
+        self.process.wait()
+        os.close(self.to)
+        os.close(self.from_it)
+        shutil.rmtree(self.folder, ignore_errors=True)
+
+    # -- The protocol.
+
+    def call(self, method, **parameters):
+        """The result of a call of the protocol; events that come before it are kept."""
+        number = next(self.numbers)
+        message = {"id": number, "method": method, "params": parameters}
+        if self.session:
+            message["sessionId"] = self.session
+        os.write(self.to, json.dumps(message).encode() + b"\0")
+        while True:
+            reply = self.message()
+            if reply.get("id") == number:
+                if "error" in reply:
+                    raise AssertionError(f"{method}: {reply['error']}")
+                return reply["result"]
+            self.events.append(reply)
+
+    def message(self):
+        while b"\0" not in self.rest:
+            data = os.read(self.from_it, 1 << 16)
+            if not data:
+                raise AssertionError("the browser has ended")
+            self.rest += data
+        text, self.rest = self.rest.split(b"\0", 1)
+        return json.loads(text)
+
+    # -- The page.
+
+    def open(self, address):
+        """Opens an address, and waits until it is there."""
+        self.call("Page.navigate", url=address)
+        self.until("document.readyState === 'complete' && location.href !== 'about:blank'")
+
+    def value(self, expression):
+        """What an expression in the page comes to."""
+        found = self.call("Runtime.evaluate", expression=expression, returnByValue=True, awaitPromise=True)
+        if "exceptionDetails" in found:
+            raise AssertionError(f"{expression}: {found['exceptionDetails']}")
+        return found["result"].get("value")
+
+    def until(self, expression):
+        """Waits until an expression in the page is true."""
+        end = time.monotonic() + PATIENCE
+        while True:
+            # While a page takes the place of another one, nothing can be asked of either.
+            with contextlib.suppress(AssertionError):
+                if self.value(expression):
+                    return
+            if time.monotonic() > end:
+                raise AssertionError(f"it does not come: {expression}")
+            time.sleep(0.02)
+
+    def type(self, text):
+        """Types a text, a character at a time."""
+        for character in text:
+            self.call("Input.insertText", text=character)
+
+    def press(self, key):
+        code, text = KEYS[key]
+        for kind in ("keyDown", "keyUp"):
+            said = {"text": text} if kind == "keyDown" and text else {}
+            self.call("Input.dispatchKeyEvent", type=kind, key=key, windowsVirtualKeyCode=code, **said)
+
+    def show_as(self, width, height, scheme="light"):
+        """Shows the page on a screen of this size, in the light or the dark."""
+        mobile = width < 600
+        self.call("Emulation.setDeviceMetricsOverride", width=width, height=height, deviceScaleFactor=1, mobile=mobile)
+        self.call("Emulation.setEmulatedMedia", features=[{"name": "prefers-color-scheme", "value": scheme}])
+
+    def picture(self, path):
+        """Writes what is shown to a file."""
+        with open(path, "wb") as file:
+            file.write(base64.b64decode(self.call("Page.captureScreenshot", format="png")["data"]))
+
+    def complaints(self):
+        """What the browser had to say of the pages: errors, and what their policy forbade."""
+        self.value("0")
+        said = [event["params"]["entry"] for event in self.events if event.get("method") == "Log.entryAdded"]
+        thrown = [event["params"] for event in self.events if event.get("method") == "Runtime.exceptionThrown"]
+        return [entry["text"] for entry in said if entry["level"] == "error"] + [str(one) for one in thrown]
