@@ -4,7 +4,7 @@ from __future__ import annotations
 
 import re
 import textwrap
-from typing import List, NamedTuple, Tuple, Union
+from typing import Dict, List, NamedTuple, Tuple, Union
 
 from .main import COMMANDS, Command
 from .options import Option, options_of
@@ -50,7 +50,8 @@ DONE = [Item("0", "done"), Item("2", "the words of the command are wrong"), Item
 SOURCES = ("mail", "folder", "packages")
 
 # Of each command its files, its variables, its exit statuses and the commands to see also.
-FACTS = {
+Facts = Tuple[List[Item], List[Item], List[Item], Tuple[str, ...]]
+FACTS: Dict[str, Facts] = {
     "init": ([INDEX], [PROGRAM], DONE, ("mail", "folder", "shell")),
     "mail": ([INDEX, STAMPS], [PROGRAM], IMPORTED, ("find", "folder", "packages")),
     "folder": ([INDEX, STAMPS], [PROGRAM], IMPORTED, ("find", "mail", "packages")),

@@ -73,8 +73,8 @@ def main(arguments=None):
     for look in (of_file, lambda path: of_program(path, options.wait), lambda path: {"sources": of_stamps(path)}):
         try:
             known.update(look(path))
-        except (Error, OSError, Unusable) as fault:
-            faults.append(fault)
+        except (Error, OSError, Unusable) as error:
+            faults.append(error)
     if options.json:
         print(json.dumps({"index": path, **known}))
     else:
