@@ -143,7 +143,7 @@ def main():
     options = parser.parse_args()
     program = os.path.abspath(options.program)
     with open(os.path.join(TOP, ".ci", "run"), encoding="utf-8") as gate:
-        if not re.search(r"^rt ci\b", gate.read(), re.MULTILINE):
+        if not re.search(r"^\s*rt ci\b", gate.read(), re.MULTILINE):
             raise SystemExit("guide: the gate does not run `rt ci`, which is left out here")
     faulty = False
     for path in options.files or [os.path.join(TOP, name) for name in ("README.md", "docs/GUIDE.md")]:

@@ -171,7 +171,7 @@ class Case(unittest.TestCase):
             reply = connection.getresponse()
             body = reply.read().decode()
         self.headers = reply.headers
-        self.assertEqual(reply.status, status, body)
+        self.assertIn(reply.status, status if isinstance(status, tuple) else (status,), body)
         for name, value in web.HEADERS.items():
             self.assertEqual(reply.headers[name], value)
         if reply.headers["Content-Type"] == web.HTML and body:
@@ -219,13 +219,15 @@ class Pages(Case):
         self.assertIn("No document has that.", self.text("/?q=zebra"))
         # What is typed may be of any kind.
         for query in ("%3Cscript%3E", "%00", "%ff", "%F0%9F%A6%8A", "a" * 1_999):
-            self.ask(f"/?q={query}")
+            self.ask(f"/?q={query}", (200, 400))
 
     def test_faults(self):
         self.filled()
         self.site()
-        page = self.text("/?q=fault+8+Paren+%E6%97%A5)", 400)
-        self.assertIn("a ) closes nothing, or a ( is not closed  fault 8 Paren \u65e5)\n          ^", page)
+        # The fake program has the fault where the query says.
+        query, place = ("fault 8 Paren \u65e5)", 8) if PROGRAM is FAKE else ("fox \u65e5)", 6)
+        page = self.text(f"/?q={quote(query)}", 400)
+        self.assertIn(f"a ) closes nothing, or a ( is not closed  {query}\n  {' ' * place}^", page)
         self.assertIn("at most 2,000 characters", self.text(f"/?q={'a' * 2_001}", 400))
         self.assertIn("no such page", self.text("/nothing", 404))
         self.assertIn("no address", self.text("/?" + "&".join(f"a{n}=1" for n in range(30)), 400))
@@ -233,9 +235,9 @@ class Pages(Case):
         for method in ("POST", "PUT", "DELETE", "OPTIONS"):
             self.ask("/", 501, method)
 
-    def test_a_program_without_the_fake(self):
+    def test_phrases(self):
         if PROGRAM is FAKE:
-            self.skipTest("no program")
+            self.skipTest("the fake program knows no phrases")
         self.filled()
         self.site()
         self.assertIn("  red AND\n         ^", self.text("/?q=red+AND", 400))
@@ -336,7 +338,9 @@ class Programs(Case):
         self.assertEqual(json.loads(self.ask("/api/status"))["documents"], 4)
         shown = json.loads(self.ask("/api/document?name=second%40x"))
         self.assertEqual((shown["lines"], shown["linked"]), (["A quick reply."], [{"name": "first@x", "about": "first@x"}]))
-        self.assertEqual(json.loads(self.ask("/api/search?q=fault+2+Quote", 400)), {"fault": "a quote is not closed", "place": 2})
+        query, place = ("fault 2 Quote", 2) if PROGRAM is FAKE else ('"fox', 0)
+        fault = json.loads(self.ask(f"/api/search?q={quote(query)}", 400))
+        self.assertEqual(fault, {"fault": "a quote is not closed", "place": place})
         self.assertEqual(json.loads(self.ask("/api/nothing", 404))["place"], None)
 
 
