@@ -5,6 +5,7 @@ import contextlib
 import itertools
 import json
 import os
+import select
 import shutil
 import subprocess
 import tempfile
@@ -12,6 +13,7 @@ import time
 
 from support import PATIENCE
 
+CALL_SECONDS = 5  # that a call has which is tried again
 KEYS = {"Enter": (13, "\r"), "ArrowDown": (40, ""), "ArrowUp": (38, ""), "Escape": (27, ""), "/": (191, "/"), "j": (74, "j"), "k": (75, "k")}
 
 
@@ -65,23 +67,27 @@ class Browser:
 
     # -- The protocol.
 
-    def call(self, method, **parameters):
+    def call(self, method, seconds=PATIENCE, **parameters):
         """The result of a call of the protocol; events that come before it are kept."""
         number = next(self.numbers)
         message = {"id": number, "method": method, "params": parameters}
         if self.session:
             message["sessionId"] = self.session
         os.write(self.to, json.dumps(message).encode() + b"\0")
+        until = time.monotonic() + seconds
         while True:
-            reply = self.message()
+            reply = self.message(until)
             if reply.get("id") == number:
                 if "error" in reply:
                     raise AssertionError(f"{method}: {reply['error']}")
                 return reply["result"]
             self.events.append(reply)
 
-    def message(self):
+    def message(self, until):
+        """The next message of the browser, which has to come before this time."""
         while b"\0" not in self.rest:
+            if not select.select([self.from_it], [], [], max(0, until - time.monotonic()))[0]:
+                raise AssertionError("the browser does not answer")
             data = os.read(self.from_it, 1 << 16)
             if not data:
                 raise AssertionError("the browser has ended")
@@ -96,9 +102,9 @@ class Browser:
         self.call("Page.navigate", url=address)
         self.until("document.readyState === 'complete' && location.href !== 'about:blank'")
 
-    def value(self, expression):
+    def value(self, expression, seconds=PATIENCE):
         """What an expression in the page comes to."""
-        found = self.call("Runtime.evaluate", expression=expression, returnByValue=True, awaitPromise=True)
+        found = self.call("Runtime.evaluate", seconds, expression=expression, returnByValue=True, awaitPromise=True)
         if "exceptionDetails" in found:
             raise AssertionError(f"{expression}: {found['exceptionDetails']}")
         return found["result"].get("value")
@@ -107,9 +113,9 @@ class Browser:
         """Waits until an expression in the page is true."""
         end = time.monotonic() + PATIENCE
         while True:
-            # While a page takes the place of another one, nothing can be asked of either.
+            # While a page takes the place of another one, nothing can be asked of either, and a call may get no answer.
             with contextlib.suppress(AssertionError):
-                if self.value(expression):
+                if self.value(expression, CALL_SECONDS):
                     return
             if time.monotonic() > end:
                 raise AssertionError(f"it does not come: {expression}")
@@ -125,6 +131,13 @@ class Browser:
         for kind in ("keyDown", "keyUp"):
             said = {"text": text} if kind == "keyDown" and text else {}
             self.call("Input.dispatchKeyEvent", type=kind, key=key, windowsVirtualKeyCode=code, **said)
+
+    def html(self):
+        """The HTML of the page, which the browser tells without a script; empty where there is no page at the moment."""
+        with contextlib.suppress(AssertionError):
+            root = self.call("DOM.getDocument", CALL_SECONDS)["root"]["nodeId"]
+            return self.call("DOM.getOuterHTML", CALL_SECONDS, nodeId=root)["outerHTML"]
+        return ""
 
     def show_as(self, width, height, scheme="light"):
         """Shows the page on a screen of this size, in the light or the dark."""

@@ -617,22 +617,14 @@ class InABrowser(Case):
         browser = self.begin()
         browser.call("Emulation.setScriptExecutionDisabled", value=True)
         try:
-            browser.call("Page.reload")
-            until(lambda: 'id="q"' in self.page_now())
+            browser.call("Page.navigate", url=f"http://127.0.0.1:{self.port}/?order=newest")
+            until(lambda: 'value="newest" selected' in browser.html())
             browser.type("quick")
             browser.press("Enter")
-            until(lambda: "The <mark>quick</mark> red fox" in self.page_now())
-            self.assertIn("?q=quick", browser.call("Page.getNavigationHistory")["entries"][-1]["url"])
+            until(lambda: "The <mark>quick</mark> red fox" in browser.html())
+            self.assertIn("?q=quick&order=newest", browser.call("Page.getNavigationHistory")["entries"][-1]["url"])
         finally:
             browser.call("Emulation.setScriptExecutionDisabled", value=False)
-
-    def page_now(self):
-        """The page's HTML, which the browser tells without a script."""
-        # While a page takes the place of another one, there is none.
-        with contextlib.suppress(AssertionError):
-            root = self.browser.call("DOM.getDocument")["root"]["nodeId"]
-            return self.browser.call("DOM.getOuterHTML", nodeId=root)["outerHTML"]
-        return ""
 
     def test_pictures(self):
         folder = os.environ.get("PICTURES")
