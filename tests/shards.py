@@ -12,13 +12,15 @@ import shutil
 import signal
 import time
 import unittest
+import unittest.mock
 import warnings
 
-import fake
-from support import PATIENCE, run_tests
-from tempfile import TemporaryDirectory
+# It lets the others find the client of the checkout.
+from support import PATIENCE, run_tests  # isort: skip
 
 from asking import compared, documents_of_texts, queries
+from sharding import EVERY, TEXTS, Case, give, ours, process_of, shelf_of, take_program
+
 from buncocedar import (
     Added,
     BadLine,
@@ -38,10 +40,8 @@ from buncocedar.shards import (
     NotAnswered,
     NotHere,
     ShardedIndex,
-    Shelf,
     Stale,
     age,
-    make,
     number_of,
     open_index,
     own_number,
@@ -50,62 +50,9 @@ from buncocedar.shards import (
     shard_path,
 )
 from buncocedar.shards.folder import write_settings
-from buncocedar.shards.places import Fixed, Here
+from buncocedar.shards.places import Fixed
 
-FAKE = fake.installed()
-PROGRAM = None
-EVERY = "NOT name:! OR name:!"
-TEXTS = [(f"n{number}", f"title {number}", f"red fox {number} {'blue' if number % 3 else 'grey'}") for number in range(300)]
 LATE = 1.5  # seconds in which a call over a shard that hangs is back, whose patience is half a second
-
-
-class Case(unittest.TestCase):
-    def setUp(self):
-        self.top = TemporaryDirectory()
-        self.addCleanup(self.top.cleanup)
-        self.folder = os.path.join(self.top.name, "a.shards")
-
-    def make(self, folder, shards, **words):
-        return make(folder, shards, program=PROGRAM or FAKE, **words)
-
-    def open(self, folder=None, patience=20.0, **words):
-        return ShardedIndex.here(folder or self.folder, program=PROGRAM or FAKE, patience=patience, **words)
-
-    def filled(self, shards=4):
-        """An open index with the texts."""
-        self.make(self.folder, shards)
-        index = self.open()
-        self.assertEqual([name for name, _ in index.add_all(TEXTS)], [name for name, _, _ in TEXTS])
-        return index
-
-    def shelf(self, *folders):
-        return [Here(Shelf(folder, program=PROGRAM or FAKE)) for folder in folders]
-
-    def needs_the_program(self):
-        if PROGRAM is None:
-            self.skipTest("no program")
-
-
-def shelf_of(index):
-    return index.places[0].shelf
-
-
-def process_of(index, shard):
-    return shelf_of(index)._shards[shard]._index._exchange.link.process
-
-
-def ours(shard, shards=4, count=300):
-    """How many of the texts stand in a shard."""
-    return sum(shard_of(name, shards) == shard for name, _, _ in TEXTS[:count])
-
-
-def give(index, seconds):
-    """Gives the shards so many seconds, and has those asked again now that rest, or whose places were looked at a moment ago."""
-    index._where.patience = shelf_of(index).patience = seconds
-    for shard in shelf_of(index)._shards.values():
-        shard.patience = seconds
-        shard.wakes()
-    index._where._looked = 0.0
 
 
 class Names(unittest.TestCase):
@@ -166,7 +113,7 @@ class Making(Case):
 
     def test_open_index(self):
         self.make(self.folder, 2)
-        os.environ["BUNCOCEDAR_PROGRAM"] = PROGRAM or FAKE
+        os.environ["BUNCOCEDAR_PROGRAM"] = self.runs
         self.addCleanup(os.environ.pop, "BUNCOCEDAR_PROGRAM")
         with open_index(self.folder) as index:
             self.assertEqual((index.shards, index.path), (2, self.folder))
@@ -206,8 +153,8 @@ class Calls(Case):
         with self.filled() as index:
             for ask in (index.count, index.search, index.explain, index.cursor, lambda query: index.top(query, 3)):
                 with self.assertRaises(QueryFault) as raised:
-                    ask("fault 8 Paren )" if PROGRAM is None else "12 fox )")
-                self.assertEqual((raised.exception.place, raised.exception.cause), (8 if PROGRAM is None else 7, "Paren"))
+                    ask("fault 8 Paren )" if self.program is None else "12 fox )")
+                self.assertEqual((raised.exception.place, raised.exception.cause), (8 if self.program is None else 7, "Paren"))
             self.assertEqual(index.count("fox"), 300)
 
     def test_replacing_and_deleting(self):
@@ -444,7 +391,7 @@ class Failures(Case):
         go = os.path.join(self.top.name, "go")
         slow = os.path.join(self.top.name, "slow")
         with open(slow, "w") as file:
-            file.write(f'#!/bin/sh\ncase "$1" in *00002*) until [ -e {go} ]; do sleep 0.05; done;; esac\nexec {PROGRAM or FAKE} "$@"\n')
+            file.write(f'#!/bin/sh\ncase "$1" in *00002*) until [ -e {go} ]; do sleep 0.05; done;; esac\nexec {self.runs} "$@"\n')
         os.chmod(slow, 0o755)
         with ShardedIndex.here(self.folder, program=slow, patience=2.0) as index:
             with self.assertRaisesRegex(Missing, "shard 2 is being opened") as raised:
@@ -456,7 +403,7 @@ class Failures(Case):
 
     def test_a_shard_that_another_one_has_open(self):
         self.filled().close()
-        with Index(shard_path(self.folder, 0), program=PROGRAM or FAKE):
+        with Index(shard_path(self.folder, 0), program=self.runs):
             with self.open(patience=4.0) as index:
                 with self.assertRaises(Missing) as raised:
                     index.stats()
@@ -497,7 +444,7 @@ class Failures(Case):
             self.assertEqual(list(raised.exception.shards), [0])
             self.assertIn("damaged", raised.exception.shards[0])
         with self.assertRaises(Damaged):
-            Index(shard_path(self.folder, 0), program=PROGRAM)
+            Index(shard_path(self.folder, 0), program=self.runs)
 
     def test_a_shard_in_two_places(self):
         self.filled().close()
@@ -572,7 +519,7 @@ class Beside(Case):
         self.needs_the_program()
         texts = documents_of_texts()
         self.make(self.folder, shards)
-        with Index(os.path.join(self.top.name, "one.alta"), create=True, program=PROGRAM) as one:
+        with Index(os.path.join(self.top.name, "one.alta"), create=True, program=self.runs) as one:
             with self.open(processes=processes) as index:
                 for each in (one, index):
                     self.assertEqual(each.add_many(texts), (len(texts), []))
@@ -599,11 +546,6 @@ class Beside(Case):
 
     def test_processes(self):
         self.equal(4, processes=2)
-
-
-def take_program(path):
-    global PROGRAM
-    PROGRAM = path
 
 
 if __name__ == "__main__":

@@ -5,7 +5,7 @@ Who asks several indexes sends to all of them before the first reply is waited f
 
 from __future__ import annotations
 
-from typing import Iterator, Union
+from typing import Iterable, Iterator, List, Union
 
 from .cursors import Cursor
 from .exchange import Exchange
@@ -88,6 +88,11 @@ class Queries:
     def send_stats(self) -> Reply:
         """Sends what `stats` sends: the `result` of its `Reply` is the `Stats`."""
         return self._exchange.send(b"stats", "stats", STATS, lambda last, rows: Stats(int(last[1]), int(last[2]), int(last[3])))
+
+    def gave(self, numbers: Iterable[int]) -> List[int]:
+        """Those of the numbers that documents of this index ever had, live or not."""
+        following = self.stats().next
+        return [number for number in numbers if 1 <= number < following]
 
     def dump(self) -> Iterator[Union[Dumped, Skipped]]:
         """The words of all live documents in order of number, as an iterator: a `Dumped` each, or a `Skipped` where they give no line."""

@@ -50,6 +50,7 @@ from .fileformat import level_count
 from .index import Index
 from .lines import LINE_LIMIT
 from .links import server_path
+from .shards.folder import is_folder_of_shards, shard_path, shards_in
 
 PAGE = 1_000  # rows of a search, at a time
 PIECE = 1 << 16  # bytes of a dump, at a time
@@ -361,15 +362,16 @@ def listening(path):
     return listener
 
 
-def handle_signals(server):
-    """The first interrupt asks the server to end, the next one ends the program at once."""
+def handle_signals(servers):
+    """The first interrupt asks the servers to end, the next one ends the programs at once."""
     asked = []
 
     def take(number, frame):
-        if asked:
-            server.index.break_off()
-        else:
-            server.stop()
+        for server in servers:
+            if asked:
+                server.index.break_off()
+            else:
+                server.stop()
         asked.append(number)
 
     for number in (signal.SIGINT, signal.SIGTERM):
@@ -380,23 +382,41 @@ def say(text):
     print(f"server: {text}", file=sys.stderr, flush=True)
 
 
+def opened(stack, path, options):
+    """A server of the index at a path, which listens; the stack holds what it needs."""
+    index = stack.enter_context(Index(path, options.create, patience=options.wait, on_wait=say, server=False))
+    # Opened once: later there may be too many files, or another one at the path.
+    file = stack.enter_context(open(path, "rb"))
+    server = Server(index, file, listening(path))
+    stack.callback(server.close)
+    return server
+
+
+def run_all(servers):
+    """Runs servers until they are asked to end, or their programs do: one in this thread, several each in one of its own."""
+    if len(servers) == 1:
+        servers[0].run()
+        return
+    threads = [threading.Thread(target=server.run) for server in servers]
+    for thread in threads:
+        thread.start()
+    for thread in threads:
+        thread.join()
+
+
 def serve(options):
-    """Serves an index until it is asked to end, and answers the exit status."""
+    """Serves an index, or each shard of a folder of shards, until it is asked to end, and answers the exit status."""
+    folder = options.index if is_folder_of_shards(options.index) else None
+    paths = [options.index] if folder is None else [shard_path(folder, shard) for shard in shards_in(folder)]
     with contextlib.ExitStack() as stack:
-        index = stack.enter_context(Index(options.index, options.create, patience=options.wait, on_wait=say, server=False))
-        # Opened once: later there may be too many files, or another one at the path.
-        file = stack.enter_context(open(options.index, "rb"))
-        server = Server(index, file, listening(options.index))
-        try:
-            handle_signals(server)
-            say(f"listening at {server_path(options.index)}")
-            server.run()
-        finally:
-            server.close()
-    if server.end is not None:
-        say(server.end)
-        return STOPPED
-    return 0
+        servers = [opened(stack, path, options) for path in paths]
+        handle_signals(servers)
+        say(f"listening for {len(paths)} shards in {folder}" if folder else f"listening at {server_path(options.index)}")
+        run_all(servers)
+    ends = [server.end for server in servers if server.end is not None]
+    for end in ends:
+        say(end)
+    return STOPPED if ends else 0
 
 
 def parser():

@@ -16,8 +16,8 @@ from ..copying import put_copy
 from ..document import NoText
 from ..errors import Error
 from ..fileformat import LEVELS, Unusable
-from ..index import Index
 from ..lines import add_line
+from ..shards import ShardedIndex, open_index
 from .engine import Import, Options
 from .interrupts import Interrupts
 from .log import Log, several
@@ -58,7 +58,11 @@ def bring_into(log, path, source, documents, options):
     with contextlib.suppress(OSError):
         tell_left(log, os.path.dirname(os.path.abspath(path)), PREFIX)
     with contextlib.ExitStack() as stack:
-        index = stack.enter_context(Index(path, create=True, patience=options.wait, on_wait=log.say))
+        index = stack.enter_context(open_index(path, create=True, patience=options.wait, on_wait=log.say))
+        if isinstance(index, ShardedIndex):
+            # The shards fill one by one, and each has its levels joined when it has taken much.
+            index.merges = options.merge
+            options = options._replace(merge=False)
         # Behind a server several may have the index: one import at a time gives names, and writes stamps.
         stamps = Stamps(stamps_path(path), options.wait, lambda why: log.say(f"{path}: {why}, and is waited for"))
         stack.callback(stamps.close)
@@ -69,7 +73,7 @@ def bring_into(log, path, source, documents, options):
         done.report()
     if done.interrupted:
         return 128 + interrupts.signal
-    if done.end is not None or done.fault:
+    if done.end is not None or done.fault or done.lost:
         return STOPPED
     return SOME_REFUSED if done.counts["refused"] else 0
 

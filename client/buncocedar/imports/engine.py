@@ -27,6 +27,7 @@ from typing import NamedTuple, Optional
 
 from ..document import TEXT_LIMIT, NoText, Unfit, Unseen
 from ..errors import Error, Refused
+from ..shards.errors import NotAnswered
 from ..fileformat import HALF, LEVELS, Unusable, level_count
 from .log import several
 from .naming import Naming, content_of, stands
@@ -58,6 +59,13 @@ class Sent(NamedTuple):
         """Replies come in the order of their lines, so the last one is there when all are."""
         replies = self.added + self.gone
         return len(replies) == self.parts + self.older and replies[-1][1].answered
+
+    def is_lost(self):
+        """Whether it will get no answer, though others behind it may: its shard gave none."""
+        return any(isinstance(reply.error, NotAnswered) for _, reply in self.added + self.gone if reply.settled)
+
+    def why_lost(self):
+        return next(reply.error for _, reply in self.added + self.gone if isinstance(reply.error, NotAnswered))
 
     def is_stored_in_part(self):
         """Whether a part of it is stored, and another one is not."""
@@ -133,8 +141,9 @@ class Import:
 
     def look_for_losses(self):
         """Says where the index has forgotten what an earlier run brought in."""
-        following = self.index.stats().next if self.stamps.of else 0
-        numbers = [number for stamp in self.stamps.of.values() for number in stamp.numbers if number >= following]
+        stamped = [number for stamp in self.stamps.of.values() for number in stamp.numbers]
+        given = set(self.index.gave(stamped)) if stamped else set()
+        numbers = [number for number in stamped if number not in given]
         if numbers:
             self.log.say(
                 f"the index has lost the documents {min(numbers):,} to {max(numbers):,} since the last run: its file was changed, or "
@@ -231,9 +240,12 @@ class Import:
     def collect(self):
         """Takes the replies that have come, in order, and writes the stamps of what is stored."""
         stamps = {}
-        while self.sent and self.sent[0].is_answered():
+        while self.sent and (self.sent[0].is_answered() or self.sent[0].is_lost()):
             sent = self.sent.popleft()
-            numbers = self.numbers_of(sent)
+            numbers = () if sent.is_lost() else self.numbers_of(sent)
+            if sent.is_lost():
+                self.summary.lose(sent.name, sent.why_lost())
+                self.note_what_is_stored(sent)
             if numbers:
                 self.summary.counts[sent.kind] += 1
                 stamps[sent.name] = Stamp(numbers, sent.stamp, self.source, sent.place, sent.content)

@@ -28,6 +28,7 @@ class Summary:
         self.missing = {}  # of each archive that is not there how many documents came from it
         self.unseen = False  # a part of the source could not be looked at
         self.first_left = None
+        self.lost = 0  # documents that got no answer of their shard
         self.is_doubtful = False  # the first document that is left may be stored
         self.end = None  # how the program ended, where it did
         self.fault = None  # why else the run stopped
@@ -48,6 +49,14 @@ class Summary:
     def leave(self, name):
         self.counts["left"] += 1
         self.first_left = self.first_left or name
+
+    def lose(self, name, why):
+        """Counts a document whose shard gave no answer, so that it may be stored or not; why is said of the first."""
+        self.leave(name)
+        self.is_doubtful = True
+        if not self.lost:
+            self.log.say(f"{name} got no answer: {why}")
+        self.lost += 1
 
     def stored(self):
         return self.counts["added"] + self.counts["changed"] + self.counts["added again"]
@@ -92,7 +101,7 @@ class Summary:
             self.log.say("the rest needs an index of its own; run again when there is room, this one goes on from here")
         elif self.interrupted:
             self.log.say("interrupted: run this again, and it goes on from here")
-        elif self.end is not None or self.fault:
+        elif self.end is not None or self.fault or self.lost:
             self.log.say("run this again, and it goes on from here")
 
     def _report_gone(self):

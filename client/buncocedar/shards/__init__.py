@@ -59,12 +59,16 @@ __all__ = [
 ]
 
 
+SECONDS_FOR_AN_ANSWER = 30.0
+
+
 def open_index(path: Union[str, bytes, os.PathLike], create: bool = False, patience: float = 10.0, **words: Any) -> Union[Index, ShardedIndex]:
     """The `Index` in a file, with the words that it takes, or the `ShardedIndex` where the path is a folder of shards.
 
-    A folder of shards is made by `make`, and not by `create`.
+    A folder of shards is made by `make`, and not by `create`. Its shards have `patience` for an answer too, and half a minute at
+    least: who has one open is told by the first call.
     """
     folder = os.fsdecode(path)
     if os.path.isdir(folder) and is_folder_of_shards(folder):
-        return ShardedIndex.here(folder, program=words.get("program"), patience=patience)
+        return ShardedIndex.here(folder, program=words.get("program"), patience=max(patience, SECONDS_FOR_AN_ANSWER))
     return Index(path, create=create, patience=patience, **words)

@@ -5,7 +5,7 @@ from __future__ import annotations
 import os
 import warnings
 from collections import deque
-from typing import Any, Deque, Iterable, Iterator, List, Optional, Tuple, Union
+from typing import Any, Deque, Dict, Iterable, Iterator, List, Optional, Tuple, Union
 
 from ..commands import Document
 from ..errors import BadName, Error, Refused
@@ -15,7 +15,7 @@ from ..texts import name_ok, whole
 from .changes import BATCH, Change, Outbox, outcome_of
 from .errors import NotAnswered
 from .places import places_of
-from .queries import ShardedQueries, _whole
+from .queries import ShardedQueries, whole_answer
 from .whereabouts import Whereabouts
 
 BATCHES_AHEAD = 4  # of each place, without an answer, before the next document is taken
@@ -52,21 +52,6 @@ class ShardedIndex(ShardedQueries):
         Processes are started anew (`spawn`), so a script that asks for them keeps its own work below `if __name__ == "__main__"`.
         """
         return cls(places_of(os.fsdecode(folder), processes, program, patience), patience)
-
-    @property
-    def shards(self) -> int:
-        """How many shards the index has."""
-        return self._where.shards
-
-    @property
-    def name(self) -> str:
-        """The name of the index, which all its shards have."""
-        return self._where.name or ""
-
-    @property
-    def places(self) -> List[Any]:
-        """The places that were found last."""
-        return self._where.places
 
     @property
     def merges(self) -> bool:
@@ -156,7 +141,15 @@ class ShardedIndex(ShardedQueries):
         self._upkeep(f"step {whole(terms, 'terms')}")
 
     def _upkeep(self, line):
-        _whole(None, self._gathered("upkeep", line)[1])
+        whole_answer(None, self._gathered("upkeep", line)[1])
+
+    def copy(self, folder: str) -> Tuple[int, Dict[int, str]]:
+        """Copies each shard, without its free room, into a folder of the machine where it stands, as for a backup.
+
+        Answers how many bytes they are, and of each shard that is not copied why. Each has what was answered when it was copied.
+        """
+        parts, missing = self._gathered("copy", folder)
+        return sum(size for _, size in parts), missing
 
     # -- The end.
 

@@ -25,10 +25,37 @@ class ShardedQueries:
     _where: Whereabouts
     _outbox: Outbox
 
+    @property
+    def shards(self) -> int:
+        """How many shards the index has."""
+        return self._where.shards
+
+    @property
+    def name(self) -> str:
+        """The name of the index, which all its shards have."""
+        return self._where.name or ""
+
+    @property
+    def places(self) -> List[Any]:
+        """The places that were found last."""
+        return self._where.places
+
+    def place_of(self, shard: int) -> Any:
+        """The place where a shard stands. Raises `Missing`."""
+        if shard not in self._where.home:
+            self._where.looks_again()
+        if shard not in self._where.home:
+            raise Missing({shard: self._where.why_missing(shard)})
+        return self._where.home[shard]
+
+    def shards_at(self, place: Any) -> List[int]:
+        """The shards that stand at a place."""
+        return sorted(shard for shard, home in self._where.home.items() if home is place)
+
     def count(self, query: str) -> int:
         """How many live documents match. Raises `QueryFault`, and `Missing`, whose `answer` is what the others say."""
         parts, missing = self._gathered("count", one_line(query, "a query"))
-        return _whole(sum(found for _, found in parts), missing)
+        return whole_answer(sum(found for _, found in parts), missing)
 
     def top(self, query: str, count: int) -> Top:
         """The `Top` answers of all shards by falling score, and of one score by age: at most `count` of them, 1 to 1,000.
@@ -39,7 +66,7 @@ class ShardedQueries:
         parts, missing = self._gathered("top", one_line(query, "a query"), count)
         rows = best((row for _, rows, _ in parts for row in rows), count)
         answers = [Scored(number, name, score) for score, _, number, name in rows]
-        return _whole(Top(answers, sum(found for *_, found in parts)), missing)
+        return whole_answer(Top(answers, sum(found for *_, found in parts)), missing)
 
     def search(self, query: str) -> Iterator[Row]:
         """The live documents that match, as an iterator of (number, name) by age, the oldest first, each shard as it is now.
@@ -60,7 +87,7 @@ class ShardedQueries:
                     failed, rows, more = future.result(self._where.patience + SECONDS_OVER)
                 except Exception as error:
                     more = False
-                    failed, rows = dict.fromkeys(self._shards_of(place), f"{place.name}: {type(error).__name__}: {error}"), []
+                    failed, rows = dict.fromkeys(self.shards_at(place), f"{place.name}: {type(error).__name__}: {error}"), []
                 missing.update(failed)
                 if more and place.is_apart:
                     # The next ones are on their way while these are taken.
@@ -72,9 +99,6 @@ class ShardedQueries:
             if more:
                 place.call("end", key)
 
-    def _shards_of(self, place):
-        return [shard for shard, home in self._where.home.items() if home is place]
-
     def cursor(self, query: str) -> ShardedCursor:
         """A `ShardedCursor` over the documents that match now, in each shard. Raises `QueryFault` and `TooManyCursors`."""
         return ShardedCursor(self.search(query))
@@ -83,7 +107,7 @@ class ShardedQueries:
         """The query's canonical spelling and its plan, which are the same in each shard. Raises `QueryFault`, and `Missing` without any."""
         missing: Dict[int, str] = {}
         for place in dict.fromkeys(self._where.home.values()):
-            shards = self._shards_of(place)
+            shards = self.shards_at(place)
             ((_, told),) = self._where.ask([(place, "explain", shards, one_line(query, "a query"))])
             if not isinstance(told, Exception) and told[1]:
                 return told[1]
@@ -96,7 +120,7 @@ class ShardedQueries:
         """The `Stats` of all shards: `next` is above each number that a document of the index ever had. Raises `Missing`."""
         every, missing = self._stats()
         following = max((number_of(stats[2], shard) for shard, stats in every.items()), default=0)
-        return _whole(Stats(sum(stats[0] for stats in every.values()), sum(stats[1] for stats in every.values()), following), missing)
+        return whole_answer(Stats(sum(stats[0] for stats in every.values()), sum(stats[1] for stats in every.values()), following), missing)
 
     def _stats(self) -> Tuple[Dict[int, tuple], Dict[int, str]]:
         parts, missing = self._gathered("stats")
@@ -105,13 +129,13 @@ class ShardedQueries:
     def stats_of_shards(self) -> Dict[int, Stats]:
         """Of each shard its `Stats`; `next` is the number that itself gives its next document. Raises `Missing`."""
         every, missing = self._stats()
-        return _whole({shard: Stats(*every[shard]) for shard in sorted(every)}, missing)
+        return whole_answer({shard: Stats(*every[shard]) for shard in sorted(every)}, missing)
 
     def gave(self, numbers: Iterable[int]) -> List[int]:
         """Those of the numbers that documents of this index ever had, live or not. Raises `Missing`."""
         every, missing = self._stats()
         parts = [(number, *own_number(number)) for number in numbers]
-        return _whole([number for number, own, shard in parts if shard in every and 1 <= own < every[shard][2]], missing)
+        return whole_answer([number for number, own, shard in parts if shard in every and 1 <= own < every[shard][2]], missing)
 
     def dump(self) -> Iterator[Union[Dumped, Skipped]]:
         """The words of all live documents, shard by shard, as an iterator: as `Index.dump`. Raises `Missing` behind the last."""
@@ -130,14 +154,14 @@ class ShardedQueries:
                 continue
             for row in self._rows(place, key, missing):
                 yield Dumped(*row) if len(row) == 3 else Skipped(*row)
-        _whole(None, missing)
+        whole_answer(None, missing)
 
     def _gathered(self, method: str, *args: Any, undo: str = "") -> Tuple[List[tuple], Dict[int, str]]:
         self._outbox.settle()
         return self._where.gathered(method, *args, undo=undo)
 
 
-def _whole(answer: Any, missing: Dict[int, str]) -> Any:
+def whole_answer(answer: Any, missing: Dict[int, str]) -> Any:
     """The answer, where no shard is missing."""
     if missing:
         raise Missing(missing, answer)
@@ -147,7 +171,7 @@ def _whole(answer: Any, missing: Dict[int, str]) -> Any:
 def _each_row(rows, missing):
     for _, number, name in rows:
         yield number, name
-    _whole(None, missing)
+    whole_answer(None, missing)
 
 
 class ShardedCursor:

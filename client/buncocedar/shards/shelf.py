@@ -13,7 +13,7 @@ from ..index import Index
 from ..replies import Reply
 from .changing import Changing, Outcome
 from .errors import Stale
-from .files import adopted, copied, released
+from .files import Failed, Files
 from .folder import settings_of, shards_in
 from .names import age, number_of
 from .shard import Shard
@@ -23,8 +23,6 @@ LEASE = 600.0  # seconds that rows wait for who asked for them
 CLIENT_SECONDS = 86_400.0  # without changes of a client, after which it is forgotten
 MERGE_BYTES = 15_000_000  # of lines in a shard, before its levels are to be joined
 
-Failed = Dict[int, str]  # of each shard without an answer why
-
 
 class Known(NamedTuple):
     """A client that has made changes here: the number of the last ones, and when they came."""
@@ -33,7 +31,7 @@ class Known(NamedTuple):
     at: float
 
 
-class Shelf:
+class Shelf(Files):
     """The shards of one folder that belong to one process, `only` some where others have the rest.
 
     Its calls answer with plain values, which can be sent over a wire; those over several shards with what failed of which
@@ -235,33 +233,6 @@ class Shelf:
         elif number <= known.number:
             raise Stale(f"changes {number} of a client came behind its changes {known.number}")
         self._clients[client] = Known(number, now)
-
-    # -- Files.
-
-    def copy(self, shard: int, path: str) -> int:
-        """Copies the file of a shard, without its free room, to a path on this machine where there is none; answers its bytes.
-
-        No line is under way to it meanwhile, and a search writes nothing, so the copy has all that was answered.
-        """
-        self._shard(shard).index(self._until())
-        if self._shard(shard).is_served():
-            raise Error(f"shard {shard} is behind a server, and others may change it: copy it when that has ended")
-        return copied(self._shard(shard).path, path)
-
-    def release(self, shard: int) -> str:
-        """Lets a shard go: its program ends, and its file gets a name under which no shelf takes it. Answers its path."""
-        with contextlib.suppress(Error):
-            # One that gave no answer was killed; what it had answered is stored.
-            self._shard(shard).close(self._until())
-        return released(self.folder, shard)
-
-    def adopt(self, shard: int, path: str) -> None:
-        """Takes a shard whose file was brought here, beside the folder's files on one file system, under another name."""
-        if not 0 <= shard < self.settings.shards:
-            raise Error(f"the shards are 0 to {self.settings.shards - 1:,}, not {shard:,}")
-        adopted(self.folder, shard, path)
-        self._shard(shard).wakes()
-        self._shard(shard).index(self._until())
 
 
 def best(rows: Iterable[tuple], count: int) -> List[tuple]:

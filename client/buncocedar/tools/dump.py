@@ -11,9 +11,9 @@ import os
 import sys
 
 from ..errors import Error
-from ..index import Index
 from ..lines import add_line
 from ..replies import Skipped
+from ..shards import open_index
 
 SOME_LEFT_OUT = 1
 STOPPED = 3
@@ -49,7 +49,7 @@ def write_all(documents):
 def main(arguments=None):
     options = parser().parse_args(arguments)
     try:
-        with Index(options.index, patience=options.wait, on_wait=say) as index:
+        with open_index(options.index, patience=options.wait, on_wait=say) as index:
             return SOME_LEFT_OUT if write_all(index.dump()) else 0
     except OSError as error:
         # What is still buffered goes nowhere, so that the end says nothing of it.

@@ -25,8 +25,8 @@ import tempfile
 from typing import NamedTuple
 
 from ..errors import Error, NotUtf8, Refused, UnknownCommand
-from ..index import Index
 from ..replies import MOST_BEST
+from ..shards import ShardedIndex, open_index, own_number
 from ..terminal import NAME, PLACE, Paint, paged, printable, quiet_end, wants_colour
 from .documents import Places, about, edit, shown_path, text_at, whole_lines
 from .matching import Wanted
@@ -49,14 +49,16 @@ PROMPT_WORDS = ("title:", "name:", "value:", "NEAR/", "AND ", "OR ", "NOT ", "he
 # --- Rows.
 
 
-def whole_documents(rows, places):
-    """The rows of documents: those of the parts of one, which stand side by side, as one row with its name."""
-    before = None
+def whole_documents(index, rows, places):
+    """The rows of documents: those of the parts of one, which stand side by side in their shard, as one row with its name."""
+    before = {}
+    is_in_shards = isinstance(index, ShardedIndex)
     for number, name in rows:
-        name = places.document(name)
-        if name != before:
-            yield number, name
-        before = name
+        shard = own_number(number)[1] if is_in_shards else 0
+        document = places.document(name)
+        if document != before.get(shard):
+            yield number, document
+        before[shard] = document
 
 
 def lines_backwards(file):
@@ -119,7 +121,7 @@ class Best:
             top = index.top(query, asked)
             self.rows = best_parts(top.answers, places)
         del self.rows[count:]
-        self.total = sum(1 for _ in whole_documents(index.search(query), places)) if places.has_parts() else top.found
+        self.total = sum(1 for _ in whole_documents(index, index.search(query), places)) if places.has_parts() else top.found
 
     def __iter__(self):
         return iter(self.rows)
@@ -319,7 +321,7 @@ def answer(index, query, view, limit, top=None):
             print(found, flush=True)
             return 0 if found else 1
         if top is None:
-            rows = Rows(whole_documents(index.search(query), view.places), limit, options.oldest)
+            rows = Rows(whole_documents(index, index.search(query), view.places), limit, options.oldest)
         else:
             rows = Best(index, query, top, view.places)
         view.wanted = Wanted(index.explain(query)) if view.needs_wanted() else None
@@ -466,7 +468,7 @@ def asking(options, index, prompt, view):
 def ask(options, view):
     """Answers what the options ask, and gives the status."""
     status = 0
-    with quiet_end(), Index(options.index, patience=options.wait, on_wait=say) as index:
+    with quiet_end(), open_index(options.index, patience=options.wait, on_wait=say) as index:
         if options.query is None:
             with Prompt("find", "history", PROMPT_WORDS) as prompt:
                 return asking(options, index, prompt, view).run()

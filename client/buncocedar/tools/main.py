@@ -34,6 +34,7 @@ COMMANDS = (
     Command("status", "buncocedar.tools.status", "what an index has, and who has it open"),
     Command("check", "buncocedar.tools.check", "read all of an index, and say whether it is whole"),
     Command("compact", "buncocedar.tools.compact", "copy an index without its free room, as for a backup"),
+    Command("shards", "buncocedar.shards.command", "several files as one index, on one machine or many"),
     Command("dump", "buncocedar.tools.dump", "write the words of all documents, as lines that add them"),
 )
 

@@ -97,6 +97,17 @@ FACTS: Dict[str, Facts] = {
         ("compact", "status"),
     ),
     "compact": ([INDEX, STAMPS], [], DONE, ("check", "dump")),
+    "shards": (
+        [Item("FOLDER/shards.json", "the name of the index, and how many shards it has"), Item("FOLDER/00007.alta", "the shard 7")],
+        [PROGRAM],
+        [
+            Item("0", "done"),
+            Item("1", "a shard is missing or damaged"),
+            Item("2", "the words of the command are wrong"),
+            Item("3", "it could not be done; the message says why"),
+        ],
+        ("find", "check", "compact"),
+    ),
     "dump": (
         [INDEX],
         [PROGRAM],
