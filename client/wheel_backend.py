@@ -21,11 +21,17 @@ class UnsupportedOperation(Exception):
     """What this backend does not make."""
 
 
-def table(name):
-    """The texts of a table of pyproject.toml."""
+def table(name, value='"(.*)"'):
+    """The values of a table of pyproject.toml: its texts, or what a pattern for them takes."""
     with open(os.path.join(HERE, "pyproject.toml"), encoding="utf-8") as file:
         lines = file.read().partition(f"\n[{name}]\n")[2].partition("\n[")[0]
-    return dict(re.findall(r'^([a-z-]+) = "(.*)"$', lines, re.MULTILINE))
+    return dict(re.findall(f"^([a-z-]+) = {value}$", lines, re.MULTILINE))
+
+
+def extras():
+    """The lines of the metadata that say what else the package can use, each extra with one requirement."""
+    for name, needed in table("project.optional-dependencies", r'\["(.*)"\]').items():
+        yield f'Provides-Extra: {name}\nRequires-Dist: {needed} ; extra == "{name}"\n'
 
 
 def sources():
@@ -48,7 +54,7 @@ def contents():
     about = f"{project['name']}-{project['version']}.dist-info"
     metadata = {
         "METADATA": f"Metadata-Version: 2.1\nName: {project['name']}\nVersion: {project['version']}\n"
-        f"Summary: {project['description']}\nRequires-Python: {project['requires-python']}\n",
+        f"Summary: {project['description']}\nRequires-Python: {project['requires-python']}\n" + "".join(extras()),
         "WHEEL": "Wheel-Version: 1.0\nGenerator: wheel_backend\nRoot-Is-Purelib: true\nTag: py3-none-any\n",
         "entry_points.txt": "[console_scripts]\n" + "".join(f"{name} = {call}\n" for name, call in table("project.scripts").items()),
     }

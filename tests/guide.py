@@ -1,5 +1,5 @@
 #!/usr/bin/env python3
-"""Runs every command block of README.md and docs/GUIDE.md, and compares what it prints with the text block behind it.
+"""Runs every command block of README.md, docs/GUIDE.md and docs/SCALE.md, and compares what it prints with the text block behind it.
 
 usage: tests/guide.py [--program PATH] [FILE ..]
 
@@ -146,7 +146,7 @@ def main():
         if not re.search(r"^\s*rt ci\b", gate.read(), re.MULTILINE):
             raise SystemExit("guide: the gate does not run `rt ci`, which is left out here")
     faulty = False
-    for path in options.files or [os.path.join(TOP, name) for name in ("README.md", "docs/GUIDE.md")]:
+    for path in options.files or [os.path.join(TOP, name) for name in ("README.md", "docs/GUIDE.md", "docs/SCALE.md")]:
         ran, faults = check(path, program)
         print(f"guide: {os.path.relpath(path, TOP)}: {ran} blocks run, {len(faults)} faults")
         for fault in faults:

@@ -17,7 +17,7 @@ from ..document import NoText
 from ..errors import Error
 from ..fileformat import LEVELS, Unusable
 from ..lines import add_line
-from ..shards import ShardedIndex, open_index
+from ..shards import ShardedIndex, is_address, open_index
 from .engine import Import, Options
 from .interrupts import Interrupts
 from .log import Log, several
@@ -40,7 +40,7 @@ def bring(tool, path, source, documents, options=Options(), fast=False):
     try:
         if path == "-":
             return write_lines(log, documents, options.whole)
-        if fast and (os.path.islink(path) or os.path.exists(path) and os.path.getsize(path)):
+        if fast and (is_address(path) or os.path.islink(path) or os.path.exists(path) and os.path.getsize(path)):
             log.say(f"{path} is there already, so it is added to where it stands")
             fast = False
         if fast:

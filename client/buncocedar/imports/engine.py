@@ -27,7 +27,7 @@ from typing import NamedTuple, Optional
 
 from ..document import TEXT_LIMIT, NoText, Unfit, Unseen
 from ..errors import Error, Refused
-from ..shards.errors import NotAnswered
+from ..shards import NotAnswered, ShardedIndex
 from ..fileformat import HALF, LEVELS, Unusable, level_count
 from .log import several
 from .naming import Naming, content_of, stands
@@ -36,6 +36,7 @@ from .stamps import Place, Stamp, below, is_numbered, name_of, part_name, part_o
 from .summary import Summary
 
 EVERY_DOCUMENT = "NOT name:! OR name:!"
+PROPOSE_AT = 500_000_000  # bytes of text that one run brings in, from which on an index in shards is proposed
 RECORD = 17  # bytes that a line takes more in the journal, at most
 
 
@@ -118,6 +119,7 @@ class Import:
         self.naming = Naming(stamps, self.live, self.source, self.sources)
         self.summary = Summary(log, options.verbose, options.prune)
         self.sent = deque()
+        self.is_proposed = isinstance(index, ShardedIndex)  # or is one already
         self.levels = Levels(levels_of(index.path) + bool(self.live))
         self.look_for_losses()
 
@@ -211,11 +213,21 @@ class Import:
             sent.added.append((name, self.index.send_add(name, title, body)))
             length = size(title) + size(body)
             self.summary.bytes += length
+            self.propose_shards()
             self.levels.put(len("add \t\t") + len(name) + length)
             self.collect()
         for name in gone:
             sent.gone.append((name, self.index.send_delete(name)))
             self.levels.put(0)
+
+    def propose_shards(self):
+        """Says once in an import of much text that an index in shards takes it in less time."""
+        if self.summary.bytes >= PROPOSE_AT and not self.is_proposed:
+            self.is_proposed = True
+            self.log.say(
+                f"this is more than {PROPOSE_AT // 1_000_000:,} MB of text: an index in several files takes it in less time; "
+                "`bunco shards make FOLDER 8` makes one (docs/SCALE.md)"
+            )
 
     def standing(self, name, but=()):
         """The names under which the index has a document and its parts, but for some of them."""

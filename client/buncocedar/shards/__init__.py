@@ -24,6 +24,7 @@ or a worker of dask.distributed (`buncocedar.dask_shards`). `python3 -m buncoced
 from __future__ import annotations
 
 import os
+import re
 from typing import Any, Union
 
 from ..index import Index
@@ -47,6 +48,7 @@ __all__ = [
     "Shelf",
     "Stale",
     "age",
+    "is_address",
     "is_folder_of_shards",
     "make",
     "number_of",
@@ -61,14 +63,26 @@ __all__ = [
 
 SECONDS_FOR_AN_ANSWER = 30.0
 
+_ADDRESS = re.compile(r"(?:[a-z]+://)?[^/\s]+:[0-9]+")
+
+
+def is_address(path: str) -> bool:
+    """Whether this is the address of a scheduler, as `10.0.0.1:8786`: a file that has this name comes first."""
+    return _ADDRESS.fullmatch(path) is not None and not os.path.lexists(path)
+
 
 def open_index(path: Union[str, bytes, os.PathLike], create: bool = False, patience: float = 10.0, **words: Any) -> Union[Index, ShardedIndex]:
-    """The `Index` in a file, with the words that it takes, or the `ShardedIndex` where the path is a folder of shards.
+    """The `Index` in a file, with the words that it takes, or a `ShardedIndex`: of a folder of shards, or of the workers of a scheduler,
+    where the path is its address, as `10.0.0.1:8786`.
 
-    A folder of shards is made by `make`, and not by `create`. Its shards have `patience` for an answer too, and half a minute at
-    least: who has one open is told by the first call.
+    Shards are made by `make`, and not by `create`. They have `patience` for an answer too, and half a minute at least: who has one
+    open is told by the first call.
     """
     folder = os.fsdecode(path)
     if os.path.isdir(folder) and is_folder_of_shards(folder):
         return ShardedIndex.here(folder, program=words.get("program"), patience=max(patience, SECONDS_FOR_AN_ANSWER))
+    if is_address(folder):
+        from ..dask_shards import on_workers
+
+        return on_workers(folder, patience=max(patience, SECONDS_FOR_AN_ANSWER))
     return Index(path, create=create, patience=patience, **words)

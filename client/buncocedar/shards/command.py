@@ -21,6 +21,7 @@ import sys
 
 from ..errors import Error
 from ..imports.stamps import stamps_path
+from . import is_address
 from .errors import Missing
 from .folder import is_folder_of_shards, make, settings_of, shard_path, shards_in, write_settings
 from .index import ShardedIndex
@@ -32,7 +33,6 @@ SOME_MISSING = 1
 BAD_USE = 2
 STOPPED = 3
 
-_ADDRESS = re.compile(r"(?:[a-z]+://)?[^/]+:[0-9]+")
 _PART = re.compile("([0-9]+)/([0-9]+)")
 
 
@@ -60,7 +60,7 @@ def say(text):
 
 def opened(options):
     """The index: of a folder, or of the workers of a scheduler."""
-    if _ADDRESS.fullmatch(options.index) and not os.path.exists(options.index):
+    if is_address(options.index):
         from ..dask_shards import on_workers
 
         return on_workers(options.index, options.wait, name=options.name or None)
@@ -157,7 +157,7 @@ def move_between_folders(options, shard, target):
 
 def split_shards(options):
     (new,) = words_of(options, 1)
-    documents = split(options.index, new, say=say)
+    documents = split(options.index, new)
     say(f"{new}: {documents:,} documents in {settings_of(new).shards:,} shards; {options.index} stays as it is")
     return 0
 

@@ -3,7 +3,7 @@
 from __future__ import annotations
 
 import os
-from typing import Any, Callable, Dict, Iterable, List, NamedTuple, Optional
+from typing import Any, Dict, Iterable, List, NamedTuple, Optional
 
 from ..errors import Error
 from ..imports.engine import EVERY_DOCUMENT
@@ -63,7 +63,7 @@ def moved(shard: int, source: Any, target: Any, patience: float) -> int:
     return size
 
 
-def split(folder: str, new: str, program: Optional[str] = None, say: Callable[[str], object] = lambda text: None) -> int:
+def split(folder: str, new: str, program: Optional[str] = None) -> int:
     """Makes a folder with twice as many shards, of two copies of each, out of which goes what belongs into the other one.
 
     No text is read again, so spellings and numbers of texts stay. Stamps beside the folder are made anew, with the new numbers.
@@ -84,19 +84,18 @@ def split(folder: str, new: str, program: Optional[str] = None, say: Callable[[s
             for half in (shard, shard + settings.shards):
                 copied(shard_path(folder, shard), shard_path(new, half))
         for half in (shard, shard + settings.shards):
-            say(f"shard {half}: {_halved(new, half, 2 * settings.shards, program):,} documents")
+            _halve(new, half, 2 * settings.shards, program)
     put_stamps(folder, new, 2 * settings.shards)
     write_settings(new, Settings(settings.name, 2 * settings.shards))
     return documents
 
 
-def _halved(folder, shard, shards, program):
-    """Takes out of a copy what belongs into another shard, and answers how many documents are left."""
+def _halve(folder, shard, shards, program):
+    """Takes out of a copy what belongs into another shard."""
     with Index(shard_path(folder, shard), program=program) as index:
         for name in [name for _, name in index.search(EVERY_DOCUMENT) if shard_of(name, shards) != shard]:
             index.send_delete(name)
         index.merge()
-        return index.stats().documents
 
 
 def put_stamps(folder: str, new: str, shards: int) -> None:
