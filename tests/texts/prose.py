@@ -15,6 +15,7 @@ from typing import NamedTuple
 TOP = os.path.dirname(os.path.dirname(os.path.dirname(os.path.abspath(__file__))))
 DOCUMENTS = [
     "README.md",
+    "CONTRIBUTING.md",
     "CHANGELOG.md",
     "docs/alta.1",
     "docs/ARCHITECTURE.md",
