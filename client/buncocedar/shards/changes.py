@@ -6,7 +6,7 @@ import copy
 import itertools
 import uuid
 import warnings
-from typing import Any, Dict, List, NamedTuple, Optional
+from typing import Any, Dict, List, NamedTuple, Optional, cast
 
 from ..errors import Error, Refused
 from ..replies import Added
@@ -57,9 +57,10 @@ class Change:
         """Waits for the answer, and gives the number of the document, or raises the refusal, or a `NotAnswered`."""
         if not self.settled:
             self._outbox.wait_for(self)
-        if self.error is not None:
-            raise copy.copy(self._error)
-        return self._value
+        error = self.error
+        if error is not None:
+            raise copy.copy(error)
+        return cast(Added, self._value)
 
 
 class Batch:
@@ -184,7 +185,7 @@ class Outbox:
         untaken = list(self.untaken)
         self.untaken.clear()
         if untaken:
-            error = copy.copy(untaken[0].error)
+            error = copy.copy(cast(Error, untaken[0].error))
             error.args = (f"{error} (nobody took the answers to {len(untaken):,} changes that went wrong: this is the first)",)
             raise error
 

@@ -110,7 +110,8 @@ class ShardedIndex(ShardedQueries):
 
     def add_many(self, documents: Iterable[Document], cut: bool = False) -> Tuple[int, List[Tuple[str, Error]]]:
         """Adds documents, each a (name, title, body), and answers how many, and (name, outcome) of each other one."""
-        added, others = 0, []
+        added = 0
+        others: List[Tuple[str, Error]] = []
         for name, outcome in self.add_all(documents, cut):
             if isinstance(outcome, Error):
                 others.append((name, outcome))

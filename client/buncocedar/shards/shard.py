@@ -4,7 +4,7 @@ from __future__ import annotations
 
 import threading
 import time
-from typing import Any, Optional, Union
+from typing import Any, Optional, Union, cast
 
 from ..errors import Error, NoFile
 from ..index import Index
@@ -72,9 +72,10 @@ class Shard:
             self._index = None
         if self._index is None:
             self._take(until)
-        if not self._index.settle(max(SECONDS_TO_TAKE, until - time.monotonic())):
+        index = cast(Index, self._index)
+        if not index.settle(max(SECONDS_TO_TAKE, until - time.monotonic())):
             raise self.rest()
-        return self._index
+        return index
 
     def _take(self, until):
         """Takes what came of the opening, once it is done."""

@@ -46,7 +46,7 @@ class Found(Stream):
     def __init__(self, opened: Dict[Shard, Cursor]):
         super().__init__(list(opened))
         self.opened = opened
-        self.rows = heapq.merge(*[self._each(shard, cursor, shard.next) for shard, cursor in opened.items()])
+        self.rows = iter(heapq.merge(*[self._each(shard, cursor, shard.next) for shard, cursor in opened.items()]))
 
     def _each(self, shard, cursor, following):
         more = True

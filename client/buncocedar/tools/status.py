@@ -79,6 +79,6 @@ def main(arguments=None):
         print(json.dumps({"index": path, **known}))
     else:
         print(*shown(path, known), sep="\n")
-    for fault in faults:
-        print(f"status: {fault}" if path in str(fault) else f"status: {path}: {fault}", file=sys.stderr)
+    for why in map(str, faults):
+        print(f"status: {why}" if path in why else f"status: {path}: {why}", file=sys.stderr)
     return STOPPED if faults else 0
