@@ -1,6 +1,8 @@
 """Makes the wheel of this client, as PEP 517 and the wheel format 1.0 say, with the standard library alone.
 
-The package is the folder `buncocedar`; its commands are those of the table [project.scripts].
+The package is the folder `buncocedar`; its commands are those of the table [project.scripts]. In a checkout where a program of these
+very sources serves, the wheel carries it behind its guard, for Linux on x86-64 with glibc 2.34 (PEP 600); elsewhere it is one of
+Python alone, for any machine. Of the same files it is the same bytes.
 """
 
 # It stands here since setuptools asks for the package `wheel`, which is not everywhere, and pip fetches both from the
@@ -10,15 +12,34 @@ import base64
 import hashlib
 import os
 import re
+import subprocess
+import tempfile
 import zipfile
+from typing import NamedTuple
 
 HERE = os.path.dirname(os.path.abspath(__file__))
+TOP = os.path.dirname(HERE)
 PACKAGE = "buncocedar"
 ENDS = (".py", ".typed", ".css", ".js", ".svg")
+PURE = "py3-none-any"
+WITH_PROGRAM = "py3-none-manylinux_2_34_x86_64"
+CLASSIFIERS = (
+    "Environment :: Console",
+    "Operating System :: POSIX :: Linux",
+    "Programming Language :: Python :: 3",
+    "Topic :: Text Processing :: Indexing",
+)
 
 
 class UnsupportedOperation(Exception):
     """What this backend does not make."""
+
+
+class Entry(NamedTuple):
+    """A file of the wheel."""
+
+    data: bytes
+    mode: int = 0o644
 
 
 def table(name, value='"(.*)"'):
@@ -31,54 +52,100 @@ def table(name, value='"(.*)"'):
 def extras():
     """The lines of the metadata that say what else the package can use, each extra with one requirement."""
     for name, needed in table("project.optional-dependencies", r'\["(.*)"\]').items():
-        yield f'Provides-Extra: {name}\nRequires-Dist: {needed} ; extra == "{name}"\n'
+        yield f"Provides-Extra: {name}"
+        yield f'Requires-Dist: {needed} ; extra == "{name}"'
+
+
+
+def entry(path):
+    with open(path, "rb") as file:
+        return Entry(file.read(), os.stat(path).st_mode & 0o755)
+
+
+def below(folder, top):
+    """The files below a folder, by their paths from the top, in order."""
+    for at, folders, names in os.walk(folder):
+        folders.sort()
+        for name in sorted(names):
+            path = os.path.join(at, name)
+            yield os.path.relpath(path, top).replace(os.sep, "/"), path
 
 
 def sources():
-    """The files of the wheel, as (name in it, path)."""
-    for folder, folders, names in os.walk(os.path.join(HERE, PACKAGE)):
-        folders.sort()
-        for name in sorted(names):
-            if name.endswith(ENDS):
-                path = os.path.join(folder, name)
-                yield os.path.relpath(path, HERE).replace(os.sep, "/"), path
+    """The files of the package, by name."""
+    return {name: Entry(entry(path).data) for name, path in below(os.path.join(HERE, PACKAGE), HERE) if name.endswith(ENDS)}
 
 
-def contents():
-    """The files of the wheel, by name, and the name of its folder of metadata."""
-    project = table("project")
-    files = {}
-    for name, path in sources():
-        with open(path, "rb") as file:
-            files[name] = file.read()
-    about = f"{project['name']}-{project['version']}.dist-info"
-    metadata = {
-        "METADATA": f"Metadata-Version: 2.1\nName: {project['name']}\nVersion: {project['version']}\n"
-        f"Summary: {project['description']}\nRequires-Python: {project['requires-python']}\n" + "".join(extras()),
-        "WHEEL": "Wheel-Version: 1.0\nGenerator: wheel_backend\nRoot-Is-Purelib: true\nTag: py3-none-any\n",
-        "entry_points.txt": "[console_scripts]\n" + "".join(f"{name} = {call}\n" for name, call in table("project.scripts").items()),
+def program():
+    """What `./alta --install` puts below a folder, by name; nothing where no program of these very sources serves without a proof."""
+    alta = os.path.join(TOP, "alta")
+    if not os.path.exists(alta):
+        return {}
+    state = subprocess.run([alta, "--state"], stdout=subprocess.PIPE, stderr=subprocess.DEVNULL, text=True).stdout
+    if not re.match("serves: (proved here|released)\n", state):
+        return {}
+    with tempfile.TemporaryDirectory() as folder:
+        subprocess.run([alta, "--no-build", "--install", folder], stderr=subprocess.DEVNULL, check=True)
+        return {name: entry(path) for name, path in below(folder, folder)}
+
+
+def metadata(project, tag):
+    """The files that say what the wheel is."""
+    head = [
+        "Metadata-Version: 2.1",
+        f"Name: {project['name']}",
+        f"Version: {project['version']}",
+        f"Summary: {project['description']}",
+        f"Requires-Python: {project['requires-python']}",
+        *(f"Classifier: {it}" for it in CLASSIFIERS),
+        *extras(),
+    ]
+    commands = "".join(f"{name} = {call}\n" for name, call in table("project.scripts").items())
+    files = {
+        "METADATA": "".join(f"{line}\n" for line in head),
+        "WHEEL": f"Wheel-Version: 1.0\nGenerator: wheel_backend\nRoot-Is-Purelib: {str(tag == PURE).lower()}\nTag: {tag}\n",
+        "entry_points.txt": f"[console_scripts]\n{commands}",
     }
-    files.update((f"{about}/{name}", text.encode()) for name, text in metadata.items())
-    return files, about
+    return {name: Entry(text.encode()) for name, text in files.items()}
 
 
 def record(files, about):
     """The list of the files with their digests."""
     lines = []
-    for name, data in files.items():
+    for name, (data, _) in files.items():
         digest = base64.urlsafe_b64encode(hashlib.sha256(data).digest()).rstrip(b"=").decode()
         lines.append(f"{name},sha256={digest},{len(data)}\n")
-    return "".join(lines) + f"{about}/RECORD,,\n"
+    return Entry(("".join(lines) + f"{about}/RECORD,,\n").encode())
+
+
+def contents():
+    """The files of the wheel, by name, and the wheel's own name."""
+    project, installed = table("project"), program()
+    stem = f"{project['name']}-{project['version']}"
+    tag = WITH_PROGRAM if installed else PURE
+    files = sources()
+    for name, it in installed.items():
+        # `bin` is a scheme of its own; all else stands below the prefix as it is.
+        folder, _, rest = name.partition("/")
+        files[f"{stem}.data/scripts/{rest}" if folder == "bin" else f"{stem}.data/data/{name}"] = it
+    files.update((f"{stem}.dist-info/{name}", it) for name, it in metadata(project, tag).items())
+    notices = os.path.join(TOP, "release", "NOTICES")
+    if installed and os.path.exists(notices):
+        files[f"{stem}.dist-info/licenses/NOTICES"] = Entry(entry(notices).data)
+    files[f"{stem}.dist-info/RECORD"] = record(files, f"{stem}.dist-info")
+    return files, f"{stem}-{tag}.whl"
 
 
 def build_wheel(wheel_directory, config_settings=None, metadata_directory=None):
     """Writes the wheel into the folder, and answers its name."""
-    files, about = contents()
-    files[f"{about}/RECORD"] = record(files, about).encode()
-    name = f"{about.removesuffix('.dist-info')}-py3-none-any.whl"
-    with zipfile.ZipFile(os.path.join(wheel_directory, name), "w", zipfile.ZIP_DEFLATED) as wheel:
-        for path, data in files.items():
-            wheel.writestr(path, data)
+    files, name = contents()
+    with zipfile.ZipFile(os.path.join(wheel_directory, name), "w") as wheel:
+        for path, (data, mode) in files.items():
+            # The first time that a ZIP file can tell: that of the day says nothing.
+            info = zipfile.ZipInfo(path, (1980, 1, 1, 0, 0, 0))
+            info.compress_type = zipfile.ZIP_DEFLATED
+            info.external_attr = (0o100000 | mode) << 16
+            wheel.writestr(info, data)
     return name
 
 

@@ -111,6 +111,11 @@ class Checkout(unittest.TestCase):
         """A program that `rt` alone has built, after the sources were written."""
         return self.put("crates/alta_cli/out/alta_cli", program, 0o755)
 
+    def commit(self):
+        """Puts all files into a commit, in a repository of the checkout's own."""
+        for words in (["init", "-q"], ["add", "-A"], ["-c", "user.name=a", "-c", "user.email=a@example.org", "commit", "-qm", "x"]):
+            done("git", *words, cwd=self.top, env=self.environment)
+
     def said(self, *words, status=0, **options):
         """What the launcher prints, on either stream."""
         return done(self.launcher, *words, status=status, env=self.environment, **options)

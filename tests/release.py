@@ -11,7 +11,7 @@ import os
 import shutil
 import time
 
-from checkouts import KIT, TAKEN, WithRelease, RT, digest_of, done, script
+from checkouts import KIT, RT, TAKEN, WithRelease, digest_of, script
 from support import run_tests
 
 PROGRAM = None
@@ -209,10 +209,6 @@ class Making(WithRelease):
         self.environment["PATH"] = os.path.join(self.folder, "kit", "bin") + os.pathsep + os.environ["PATH"]
         self.let_go()
         self.commit()
-
-    def commit(self):
-        for words in (["init", "-q"], ["add", "-A"], ["-c", "user.name=a", "-c", "user.email=a@example.org", "commit", "-qm", "x"]):
-            done("git", *words, cwd=self.top, env=self.environment)
 
     def prove(self):
         self.said("--no-build", "--prove", status=2)

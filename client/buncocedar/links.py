@@ -12,17 +12,30 @@ import socket
 import stat
 import subprocess
 import sys
+import sysconfig
 import time
 import warnings
 
 SECONDS_TO_END = 5  # that a program has to end, once it can read no more lines
 
 
+def _installed_program() -> str | None:
+    """The path of `alta` as it was installed with this package: where the same scheme, or `pip install --target`, puts commands."""
+    site = os.path.realpath(os.path.dirname(os.path.dirname(os.path.abspath(__file__))))
+    places = [os.path.join(site, "bin")]
+    for scheme in sysconfig.get_scheme_names():
+        paths = sysconfig.get_paths(scheme)
+        if site in (os.path.realpath(paths["purelib"]), os.path.realpath(paths["platlib"])):
+            places.append(paths["scripts"])
+    found = (os.path.join(place, "alta") for place in places)
+    return next((path for path in found if os.access(path, os.X_OK)), None)
+
+
 def default_program() -> str:
     """The path of the program.
 
-    It is what the variable BUNCOCEDAR_PROGRAM says, or `alta` of the checkout that this client is in, or else `alta` or
-    `alta_cli` on the PATH.
+    It is what the variable BUNCOCEDAR_PROGRAM says, or `alta` of the checkout that this client is in, or `alta` as it was
+    installed with this client, or else `alta` or `alta_cli` on the PATH. Where there is none it raises `FileNotFoundError`.
     """
     top = os.path.dirname(os.path.dirname(os.path.dirname(os.path.abspath(__file__))))
     checkout = os.path.join(top, "alta")
@@ -30,7 +43,7 @@ def default_program() -> str:
         return os.environ["BUNCOCEDAR_PROGRAM"]
     if os.path.isdir(os.path.join(top, "crates")) and os.path.exists(checkout):
         return checkout
-    found = shutil.which("alta") or shutil.which("alta_cli")
+    found = _installed_program() or shutil.which("alta") or shutil.which("alta_cli")
     if found is None:
         raise FileNotFoundError(2, "the program is missing: install it, or set BUNCOCEDAR_PROGRAM to its path", "alta")
     return found
