@@ -56,7 +56,6 @@ def extras():
         yield f'Requires-Dist: {needed} ; extra == "{name}"'
 
 
-
 def entry(path):
     with open(path, "rb") as file:
         return Entry(file.read(), os.stat(path).st_mode & 0o755)

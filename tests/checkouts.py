@@ -56,6 +56,18 @@ def digest_of(data):
     return hashlib.sha256(data).hexdigest()
 
 
+def release(top, data, **other):
+    """Writes a release of these bytes and of the sources as they are into a checkout, but for these values of its manifest; answers the digest of the bytes."""
+    digest = hashlib.sha256(data).hexdigest()
+    sources = done(os.path.join(top, "release", "digest"), "--anew").strip()
+    values = {"version": "1.2.3", "sources": sources, "kit": KIT, "program": digest, **other}
+    with open(os.path.join(top, "release", "MANIFEST"), "w") as file:
+        file.write("# A comment.\n" + "".join(f"{word} {value}\n" for word, value in values.items()))
+    with open(os.path.join(top, "release", "alta-x86_64.gz"), "wb") as file:
+        file.write(gzip.compress(data))
+    return digest
+
+
 class Checkout(unittest.TestCase):
     """A small checkout, with two crates, in a folder of its own."""
 
@@ -176,12 +188,7 @@ class WithRelease(Started):
         self.asks = self.words[1:]
 
     def release(self, data, **other):
-        """Writes a release of these bytes and of the sources as they are, but for these values of its manifest."""
-        sources = done(os.path.join(self.top, "release", "digest"), "--anew").strip()
-        values = {"version": "1.2.3", "sources": sources, "kit": KIT, "program": digest_of(data), **other}
-        self.put("release/MANIFEST", "# A comment.\n" + "".join(f"{word} {value}\n" for word, value in values.items()))
-        self.put("release/alta-x86_64.gz", gzip.compress(data))
-        self.digest = digest_of(data)
+        self.digest = release(self.top, data, **other)
 
     def state(self):
         """What `--state` says, by the words of its lines."""

@@ -3,7 +3,8 @@
 
 usage: tests/guide.py [--program PATH] [FILE ..]
 
-The blocks of one file run in one new folder, in their order: `sh` blocks by a shell that stops at the first command that
+The blocks of one file run in one new folder, in their order, and without the kit: those of README.md with a release of the program,
+those of the others with the program as it is built. `sh` blocks by a shell that stops at the first command that
 fails, `python` blocks by Python. A `text` block holds all that the block before it printed. Any other kind of block, or one
 that is not closed, is a fault, so that none is passed over. `.ci/run` is left out, since it runs this check.
 """
@@ -17,6 +18,8 @@ import subprocess
 import sys
 import tempfile
 from typing import NamedTuple
+
+from checkouts import release
 
 from support import PATIENCE, TOP
 
@@ -61,14 +64,20 @@ def blocks(path):
     return found
 
 
-def prepare(folder, program):
-    """A folder in which the commands find what they name: the program, the scripts, and some input."""
+def prepare(folder, program, is_released):
+    """A folder in which the commands find what they name: the program, built or released, the scripts, and some input."""
     for name in SHARED:
         os.symlink(os.path.join(TOP, name), os.path.join(folder, name))
-    shutil.copy(os.path.join(TOP, "alta"), folder)
-    built = os.path.join(folder, "crates", "alta_cli", "out")
-    os.makedirs(built)
-    os.symlink(program, os.path.join(built, "alta_cli"))
+    for name in ("alta", "crates.txt", "HANDLES"):
+        shutil.copy(os.path.join(TOP, name), folder)
+    os.makedirs(os.path.join(folder, "crates", "alta_cli", "out"))
+    os.mkdir(os.path.join(folder, "release"))
+    shutil.copy(os.path.join(TOP, "release", "digest"), os.path.join(folder, "release"))
+    if is_released:
+        with open(program, "rb") as file:
+            release(folder, file.read())
+    else:
+        shutil.copy(program, os.path.join(folder, "crates", "alta_cli", "out", "alta_cli"))
     with open(os.path.join(folder, "archive.mbox"), "w") as file:
         file.write(MAILBOX)
 
@@ -86,15 +95,21 @@ def commands(text):
     return text
 
 
+def path_without_kit():
+    """The folders of the PATH that have no command `rt`, behind that of this Python."""
+    folders = [os.path.dirname(sys.executable), *os.environ["PATH"].split(os.pathsep)]
+    return os.pathsep.join(folder for folder in folders if not os.path.exists(os.path.join(folder, "rt")))
+
+
 def run(block, folder, program):
-    """The status and all that the block prints, on either stream."""
+    """The status and all that the block prints, on either stream; there is no kit."""
     text = commands(block.text)
     command = ["sh", "-eu", "-c", text] if block.kind == "sh" else [sys.executable, "-c", text]
     environment = {
         **os.environ,
         "BUNCOCEDAR_PROGRAM": program,
         "PYTHONPATH": os.path.join(folder, "client"),
-        "PATH": os.path.dirname(sys.executable) + os.pathsep + os.environ["PATH"],
+        "PATH": path_without_kit(),
     }
     done = subprocess.run(
         command,
@@ -114,7 +129,8 @@ def check(path, program):
     faults = []
     ran = 0
     with tempfile.TemporaryDirectory() as folder:
-        prepare(folder, program)
+        # A reader of README has a clone, and no program yet.
+        prepare(folder, program, is_released=os.path.basename(path) == "README.md")
         for number, block in enumerate(found):
             if block.kind == "text":
                 if number == 0 or found[number - 1].kind == "text":
