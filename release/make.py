@@ -126,7 +126,8 @@ def whole(names, folder):
     while left:
         name = left.pop()
         found.add(name)
-        left |= set(os.listdir(os.path.join(folder, "rlibs", f"{name}.rlib", "below"))) - found
+        below = os.path.join(folder, "rlibs", f"{name}.rlib", "below")
+        left |= set(os.listdir(below) if os.path.isdir(below) else ()) - found
     return sorted(found)
 
 
