@@ -4,6 +4,7 @@
 usage: release/make.py                  writes alta-x86_64.gz, MANIFEST and NOTICES, where the program was proved here
        release/make.py --check          ends with 0 where the release is of these sources, and what their proof has built here
        release/make.py --compare        the same, and a release of other sources is no fault
+       release/make.py --assembly FILE  writes the assembly of the program that was proved here; `release/assembly.py` says of what use
 
 MANIFEST has a word and a value a line: the version, the digest of the sources (`release/digest`), the kit that proved and built
 them, and the digest of the program. A release is made of sources that are in a commit, and of a program that the kit has marked as
@@ -19,6 +20,8 @@ import re
 import shutil
 import subprocess
 import sys
+
+import assembly
 
 HERE = os.path.dirname(os.path.realpath(__file__))
 TOP = os.path.dirname(HERE)
@@ -59,6 +62,14 @@ def sources():
 def kit():
     """The kit's own name, or nothing where there is none."""
     return asked("rt", "version") if shutil.which("rt") else ""
+
+
+def folder_of_kit():
+    """The folder in which the kit lies."""
+    command = shutil.which("rt")
+    if command is None:
+        raise Fault("the command rt is missing")
+    return os.path.dirname(os.path.dirname(os.path.realpath(command)))
 
 
 def version():
@@ -167,7 +178,7 @@ def write():
     if before.get("version") == number and before.get("program") != digest:
         raise Fault(f"another program was released as version {number}: raise the version in alta, client/pyproject.toml and the client")
     with open(NOTICES, "w", encoding="utf-8") as file:
-        file.write(notices(os.path.dirname(os.path.dirname(os.path.realpath(shutil.which("rt"))))))
+        file.write(notices(folder_of_kit()))
     with open(PACKED, "wb") as file:
         file.write(gzip.compress(program, 9, mtime=0))
     with open(MANIFEST, "w", encoding="ascii") as file:
@@ -187,18 +198,28 @@ def check(may_differ):
     return line
 
 
+def write_assembly(path):
+    made = assembly.of_program(TOP, "alta_cli", folder_of_kit(), proved())
+    with open(path, "wb") as file:
+        file.write(made)
+    return f"wrote {path}, {len(made)} bytes: the kit's clang makes the program of it that was proved here, byte for byte"
+
+
 def main():
     parser = argparse.ArgumentParser(description=__doc__, formatter_class=argparse.RawDescriptionHelpFormatter)
     ways = parser.add_mutually_exclusive_group()
     ways.add_argument("--check", action="store_true")
     ways.add_argument("--compare", action="store_true")
+    ways.add_argument("--assembly", metavar="FILE")
     options = parser.parse_args()
     try:
-        if options.check or options.compare:
+        if options.assembly:
+            said_last = write_assembly(options.assembly)
+        elif options.check or options.compare:
             said_last = check(options.compare)
         else:
             said_last = write()
-    except Fault as fault:
+    except (Fault, assembly.Fault) as fault:
         print(f"make: {fault}", file=sys.stderr)
         return 1
     print(f"make: {said_last}")
