@@ -20,7 +20,6 @@ from typing import NamedTuple
 HERE = os.path.dirname(os.path.abspath(__file__))
 TOP = os.path.dirname(HERE)
 PACKAGE = "buncocedar"
-ENDS = (".py", ".typed", ".css", ".js", ".svg")
 PURE = "py3-none-any"
 WITH_PROGRAM = "py3-none-manylinux_2_34_x86_64"
 CLASSIFIERS = (
@@ -72,7 +71,7 @@ def below(folder, top):
 
 def sources():
     """The files of the package, by name."""
-    return {name: Entry(entry(path).data) for name, path in below(os.path.join(HERE, PACKAGE), HERE) if name.endswith(ENDS)}
+    return {name: Entry(entry(path).data) for name, path in below(os.path.join(HERE, PACKAGE), HERE) if "__pycache__" not in name}
 
 
 def program():

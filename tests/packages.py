@@ -148,7 +148,9 @@ class Debian(Packages):
         self.assertNotIn("__pycache__", listed)
         for line in listed.splitlines():
             self.assertRegex(line, r"^[-d]rw[-x]r-[-x]r-[-x] root/root ", line)
-        for name in ("usr/share/man/man1/alta.1.gz", "usr/share/doc/buncocedar/copyright", "usr/lib/systemd/user/bunco-import.timer", "usr/bin/bunco"):
+        named = "man/man1/alta.1.gz man/man1/bunco.1.gz man/man1/bunco-find.1.gz doc/buncocedar/copyright doc/buncocedar/GUIDE.md.gz".split()
+        named += ["bash-completion/completions/alta", "bash-completion/completions/bunco", "zsh/vendor-completions/_bunco"]
+        for name in [f"usr/share/{it}" for it in named] + ["usr/lib/systemd/user/bunco-import.timer", "usr/bin/bunco"]:
             self.assertTrue(os.path.isfile(os.path.join(root, name)), name)
         # In a bare folder the package is where no scheme of this Python has it, and the program on the PATH.
         environment = {"PATH": os.path.join(root, "usr/bin"), "PYTHONPATH": os.path.join(root, "usr/lib/python3/dist-packages")}

@@ -29,7 +29,7 @@ class Page(NamedTuple):
     sections: List[Section]
 
 
-PROGRAM = Item("BUNCOCEDAR_PROGRAM", "the path of the program; else it is alta of the checkout, or alta on the PATH")
+PROGRAM = Item("BUNCOCEDAR_PROGRAM", "the path of the program; else it is alta of the checkout, or as it was installed with the client, or on the PATH")
 HISTORY = Item("BUNCOCEDAR_HISTORY", "the file of the history; empty, none is kept")
 EDITOR = Item("VISUAL, EDITOR", "the editor")
 PAGER = Item("PAGER, NO_COLOR", "what shows long answers, and that no colours are used")
