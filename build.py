@@ -353,8 +353,10 @@ def main():
     parser = argparse.ArgumentParser(description=__doc__, formatter_class=argparse.RawDescriptionHelpFormatter)
     parser.add_argument("--jobs", type=int, default=lanes_here())
     parser.add_argument("--record", metavar="DIGEST")
-    parser.add_argument("--then", nargs=argparse.REMAINDER, default=[])
-    options = parser.parse_args()
+    words = sys.argv[1:]
+    own = words.index("--then") if "--then" in words else len(words)
+    # No word of the launcher's is read here: an index may be called `--`.
+    options, launcher = parser.parse_args(words[:own]), words[own + 1 :]
     signal.signal(signal.SIGTERM, end_by_signal)
     signal.signal(signal.SIGINT, end_by_signal)
     if shutil.which("rt") is None:
@@ -363,14 +365,14 @@ def main():
     try:
         if options.record:
             return 0 if record(options.record) else 2
-        words = have_built(options.jobs, options.then[1:])
+        words = have_built(options.jobs, launcher[1:])
     except OSError as error:
         say(f"nothing can be built in {OUT}: {error}")
         return 2
     if words is None:
         return 2
-    if options.then:
-        os.execv(options.then[0], [options.then[0], *words])
+    if launcher:
+        os.execv(launcher[0], [launcher[0], *words])
     return 0
 
 

@@ -125,7 +125,7 @@ class Installing(Checkout):
     def test_installing_into_a_folder_of_any_name(self):
         with open(os.path.join(self.folder, "--install"), "w") as file:
             file.write("notes\n")
-        for name in ("init", "run", "demo"):
+        for name in ("init", "run", "demo", "-x", "--"):
             self.said("--install", name, cwd=self.folder)
             self.assertTrue(os.path.exists(os.path.join(self.folder, name, "bin", "alta")))
 
@@ -175,6 +175,16 @@ class Building(Started):
         self.ended(self.start(), 0, "new")
         self.assertEqual(self.calls(), ["lib", "run"])
         self.assertEqual(sorted(os.listdir(self.out)), ["alta_cli", "build.log", "building", "proved"])
+
+    def test_paths_of_any_name(self):
+        # They go by the builder, and come back as they were.
+        self.let_go()
+        for name in ("-x", "--", "--jobs", "a b\n*"):
+            self.put("../index of any name/" + name, "")
+            words = [self.launcher, name, "run"]
+            said = subprocess.run(words, cwd=os.path.join(self.folder, "index of any name"), env=self.environment, stdout=subprocess.PIPE, text=True)
+            self.assertEqual(said.stdout, f"new {name} run\n")
+            os.remove(os.path.join(self.out, "alta_cli"))
 
     def test_an_older_program_serves(self):
         self.put_older()
