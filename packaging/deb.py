@@ -11,8 +11,8 @@ the folder, or here, and its path is printed. dpkg-deb makes it, which is Debian
 
 import argparse
 import configparser
+import glob
 import gzip
-import json
 import os
 import shutil
 import stat
@@ -54,18 +54,7 @@ sys.exit({call}())
 """
 
 
-# Prints the manual pages of the commands and their completions, which the client makes of their option lists.
-OF_COMMANDS = """
-import json
-from buncocedar.tools.completion import SHELLS
-from buncocedar.tools.main import COMMANDS
-from buncocedar.tools.manual import page_of, page_of_all, roff_of
-pages = {f"bunco-{it.name}.1": roff_of(page_of(it)) for it in COMMANDS}
-files = {f"usr/share/man/man1/{name}": page for name, page in {"bunco.1": roff_of(page_of_all()), **pages}.items()}
-files["usr/share/bash-completion/completions/bunco"] = SHELLS["bash"]()
-files["usr/share/zsh/vendor-completions/_bunco"] = SHELLS["zsh"]()
-print(json.dumps(files))
-"""
+COMPLETIONS = {"bash": "usr/share/bash-completion/completions/bunco", "zsh": "usr/share/zsh/vendor-completions/_bunco"}
 
 
 class Fault(Exception):
@@ -139,9 +128,10 @@ def put_commands(stage, text):
 def put_texts(stage):
     for path in TEXTS:
         stage.put(f"usr/share/doc/{NAME}/{os.path.basename(path)}", read(path))
-    of_commands = asked(sys.executable, "-c", OF_COMMANDS, cwd=os.path.join(TOP, "client"), env={**os.environ, "COLUMNS": "80"})
-    for name, text in json.loads(of_commands).items():
-        stage.put(name, text.encode())
+    for path in sorted([*glob.glob(f"{TOP}/docs/*.1"), *glob.glob(f"{TOP}/docs/man/*.1")]):
+        stage.put(f"usr/share/man/man1/{os.path.basename(path)}", read(path))
+    for shell, name in COMPLETIONS.items():
+        stage.put(name, (asked(os.path.join(TOP, "bunco"), "completion", shell) + "\n").encode())
     notices = read("release/NOTICES") if os.path.exists(os.path.join(TOP, "release", "NOTICES")) else b""
     stage.put(f"usr/share/doc/{NAME}/copyright", COPYRIGHT.encode() + notices)
 

@@ -32,7 +32,7 @@ class Packages(Checkout):
         super().setUp()
         for folder in ("client", "packaging", "docs"):
             shutil.copytree(os.path.join(TOP, folder), os.path.join(self.top, folder), dirs_exist_ok=True, ignore=shutil.ignore_patterns("__pycache__"))
-        for file in ("README.md", "CHANGELOG.md"):
+        for file in ("README.md", "CHANGELOG.md", "bunco"):
             shutil.copy(os.path.join(TOP, file), self.top)
         self.put("release/NOTICES", "== caseless: LICENSE\n")
         self.put(".gitignore", "out/\n__pycache__/\n")
