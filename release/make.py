@@ -3,7 +3,7 @@
 
 usage: release/make.py                  writes alta-x86_64.gz, MANIFEST and NOTICES, where the program was proved here
        release/make.py --check          ends with 0 where the release is of these sources, and what their proof has built here
-       release/make.py --compare        the same, and a release of other sources is no fault
+       release/make.py --compare        the same, and no release, or one of other sources, is no fault
        release/make.py --assembly FILE  writes the assembly of the program that was proved here; `release/assembly.py` says of what use
 
 MANIFEST has a word and a value a line: the version, the digest of the sources (`release/digest`), the kit that proved and built
@@ -189,6 +189,8 @@ def write():
 
 def check(may_differ):
     """What a comparison says; it is a fault where the release is not what was proved here, as far as that can be said."""
+    if may_differ and not os.path.exists(MANIFEST):
+        return "these sources are proved here, and there is no release to compare with"
     line = compared()
     if line == OTHER_BYTES or (line == OTHER_SOURCES and not may_differ):
         raise Fault(line)

@@ -271,7 +271,7 @@ class Building(Started):
         second = self.start(of=["--prove"])
         self.assertIn(f"waiting for process {first.pid}, ", second.stderr.readline())
         self.let_go()
-        self.assertIn("there is no release", self.ended(second, 1, ""))
+        self.ended(second, 0, "make:")
         self.ended(self.start(), 0, "new")
         self.assertEqual(self.calls(), ["lib", "lib", "run"])
 

@@ -165,6 +165,8 @@ class Released(WithRelease):
         self.assertIn("the release is of other sources than these", self.make("--check", status=1))
         self.release(script("released").encode(), program="0" * 64)
         self.assertIn("is not the one that release/MANIFEST names", self.said("--prove", status=1))
+        os.remove(os.path.join(self.top, "release", "MANIFEST"))
+        self.assertIn("there is no release to compare with", self.said("--prove"))
 
     def test_a_proof_that_is_refused(self):
         self.give_rt()
