@@ -45,6 +45,11 @@ License: none
  The owner of Buncocedar has not chosen a licence yet.
 
 """
+# What Python has kept of the modules is of no package.
+BEFORE_REMOVAL = f"""#!/bin/sh
+set -e
+find /{PYTHON}/{NAME} -name __pycache__ -type d -prune -exec rm -rf {{}} +
+"""
 COMMAND = """#!/usr/bin/python3
 import sys
 
@@ -159,6 +164,7 @@ def make(maintainer, target):
         put_root(stage)
         control = CONTROL.format(name=NAME, version=version, maintainer=maintainer, size=stage.size())
         stage.put("DEBIAN/control", control.encode())
+        stage.put("DEBIAN/prerm", BEFORE_REMOVAL.encode(), 0o755)
         path = os.path.join(target, f"{NAME}_{version}_amd64.deb")
         words = ("dpkg-deb", "--root-owner-group", "-Zxz", "--build", folder, path)
         asked(*words, env={**os.environ, "SOURCE_DATE_EPOCH": stamp})
