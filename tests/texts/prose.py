@@ -19,6 +19,7 @@ DOCUMENTS = [
     "CHANGELOG.md",
     "docs/alta.1",
     "docs/ARCHITECTURE.md",
+    "docs/DECISIONS.md",
     "docs/FORMAT.md",
     "docs/GUARANTEES.md",
     "docs/GUIDE.md",
