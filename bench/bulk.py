@@ -33,7 +33,7 @@ import subprocess
 import sys
 import tempfile
 import time
-from typing import NamedTuple
+from typing import NamedTuple, Optional
 
 TOP = os.path.dirname(os.path.dirname(os.path.abspath(__file__)))
 sys.path[:0] = [os.path.join(TOP, "tests"), os.path.join(TOP, "client")]
@@ -80,23 +80,27 @@ class Cost(NamedTuple):
 
 
 class Grown(NamedTuple):
-    """What an index of so much text costs: megabytes of text, seconds of the processor for adds and merges, milliseconds of an opening,
-    peak memory in MiB, megabytes of its level."""
+    """What an index costs: seconds of the processor for adds and merges, milliseconds of an opening where that was measured, peak memory
+    in MiB, megabytes of the index once it is merged."""
 
-    text: float
     adding: float
-    opening: float
+    opening: Optional[float]
     memory: float
-    level: float
+    size: float
+
+
+def rounded(value):
+    """A figure with three digits behind the point, where there is one."""
+    return None if value is None else round(value, 3)
 
 
 def panels_of(grown):
-    """The panels of a picture of how these grow."""
+    """The panels of a picture of how these grow: of each size of text in megabytes the program's and FTS5's."""
     drawn = {
         "adding": ("adds and merges, processor time", "s"),
         "opening": ("an opening, processor time", "ms"),
         "memory": ("memory at most", "MiB"),
-        "level": ("the merged index", "MB"),
+        "size": ("the merged index", "MB"),
     }
     return [
         {
@@ -104,8 +108,8 @@ def panels_of(grown):
             "kind": "lines",
             "unit": unit,
             "across": "megabytes of text",
-            "series": ["Buncocedar"],
-            "rows": [[cost.text, getattr(cost, name)] for cost in grown],
+            "series": ["Buncocedar", "SQLite FTS5 in one transaction"],
+            "rows": [[text, *(rounded(getattr(cost, name)) for cost in costs)] for text, costs in sorted(grown.items())],
         }
         for name, (title, unit) in drawn.items()
     ]
@@ -256,8 +260,8 @@ def by_program(program, folder, source, count, text):
     print(f"  index: {len(levels)} level of {size} bytes, {size / text:.3f} of the text; the file {(len(content) - HEAD) / text:.3f}")
     beside = (merged.memory - opened.memory) * 1024 / size
     print(f"  memory: the merge takes {merged.memory * 1024 / size:.1f} times the level, {beside:.1f} of them beside the open index")
-    grown = Grown(text / 1e6, added.and_then(merged).processor, opened.processor * 1e3, merged.memory / 1024, size / 1e6)
-    return given[1], grown
+    both = added.and_then(merged)
+    return given[1], Grown(both.processor, opened.processor * 1e3, both.memory / 1024, size / 1e6)
 
 
 def by_table(folder, source, count, text, how):
@@ -272,11 +276,11 @@ def by_table(folder, source, count, text, how):
     base.close()
     size = os.path.getsize(path)
     print(f"  its file: {size} bytes, {size / text:.3f} of the text")
-    return f"found {found}"
+    return f"found {found}", Grown(cost.processor, None, cost.memory / 1024, size / 1e6)
 
 
 def measure(program, options, lines):
-    """All of it over these documents."""
+    """All of it over these documents. Answers the megabytes of their text, and what the program and FTS5 in bulk cost."""
     text = sum(len(part) for line in lines for part in line[4:-1].split(b"\t", 2)[1:])
     print(f"{len(lines)} documents, {text} bytes of text (load {load()})")
     with tempfile.TemporaryDirectory(dir=options.folder) as folder:
@@ -289,13 +293,13 @@ def measure(program, options, lines):
                 file.writelines(with_merges_of_levels(lines))
             else:
                 file.writelines(with_merges(lines, options.merge_each, options.merge_share))
-        answer, grown = by_program(program, folder, given, len(lines), text)
+        answer, ours = by_program(program, folder, given, len(lines), text)
         found = {"program": answer}
         for how in ("commits", "bulk")[options.fast :]:
-            found[f"FTS5, {how}"] = by_table(folder, source, len(lines), text, how)
+            found[f"FTS5, {how}"], theirs = by_table(folder, source, len(lines), text, how)
     told = ", ".join(f"{name} {given.removeprefix('found ')}" for name, given in found.items())
     print(f"  documents with {WORD!r}: {told}", flush=True)
-    return grown
+    return round(text / 1e6, 1), (ours, theirs)
 
 
 def main():
@@ -317,9 +321,9 @@ def main():
         raise SystemExit("bulk: the program is not built: run ./alta once")
     print(f"SQLite {sqlite3.sqlite_version}, Python {platform.python_version()}, {platform.system()} {platform.release()}, {os.cpu_count()} processors")
     lines = documents_of(options)
-    grown = [measure(program, options, lines[: len(lines) // part]) for part in options.parts]
+    grown = dict(measure(program, options, lines[: len(lines) // part]) for part in options.parts)
     if options.record:
-        record(options.record, "How the costs of an index grow with its text", panels_of(sorted(grown)))
+        record(options.record, "How the costs of an index grow with its text", panels_of(grown))
     return 0
 
 

@@ -7,6 +7,8 @@ import shlex
 import sqlite3
 import sys
 
+PLACES = ("--program", "--folder", "--lines", "--log", "--pid", "--to", "--record")  # options whose value is a place of this machine
+
 
 def machine():
     """The machine and its load, in one line."""
@@ -15,9 +17,14 @@ def machine():
 
 
 def command():
-    """The command line of this bench, without the paths that are of this machine alone."""
-    words = [os.path.join("bench", os.path.basename(sys.argv[0])), *sys.argv[1:]]
-    return shlex.join(os.path.basename(word) if os.path.isabs(word) else word for word in words)
+    """The command line of this bench, without the options that name places of this machine alone."""
+    words, left = [os.path.join("bench", os.path.basename(sys.argv[0]))], iter(sys.argv[1:])
+    for word in left:
+        if word in PLACES:
+            next(left, None)
+        else:
+            words.append(word)
+    return shlex.join(words)
 
 
 def record(path, title, panels):
