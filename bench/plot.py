@@ -24,6 +24,7 @@ WIDTH = 720
 MARGIN = 16
 LINE = 18  # from one line of text to the next
 BAR = 11
+LABELS = 300  # width for the labels of bars
 PANEL = 190  # height of the field of a panel of lines
 COLOURS = ["a", "b", "c", "d"]  # classes of the series, in order
 STYLE = """
@@ -72,10 +73,12 @@ def short(value):
     return f"{value:.0f}" if value >= 100 else f"{value:.3g}"
 
 
-def legend(series, y):
-    """The names of the series, each beside its colour."""
+def legend(panel, y):
+    """The names of the series that have a value in some row, each beside its colour."""
     marks, x = [], MARGIN
-    for name, style in zip(series, COLOURS):
+    for place, (name, style) in enumerate(zip(panel["series"], COLOURS), 1):
+        if all(row[place] is None for row in panel["rows"]):
+            continue
         marks += [rectangle(x, y - 9, 10, 10, style), text(x + 15, y, name)]
         x += 30 + 7.5 * len(name)
     return marks
@@ -96,9 +99,9 @@ def steps_up_to(most):
 
 def bars(panel, top):
     """A row for each label, in it a bar for each series that has a value there."""
-    marks, y = legend(panel["series"], top), top + LINE
+    marks, y = legend(panel, top), top + LINE
     most = max(value for row in panel["rows"] for value in row[1:] if value is not None)
-    left, wide = 190, WIDTH - 190 - 90
+    left, wide = LABELS, WIDTH - LABELS - 90
     for label, *values in panel["rows"]:
         known = [(style, value) for style, value in zip(COLOURS, values) if value is not None]
         marks.append(text(left - 8, y + BAR * len(known) / 2 + 4, label, anchor="end"))
@@ -120,7 +123,7 @@ def lines(panel, top):
     def at(across, up):
         return left + wide * across / furthest, bottom - PANEL * up / ups[-1]
 
-    marks = legend(panel["series"], top)
+    marks = legend(panel, top)
     for up in ups:
         marks += [stroke(*at(0, up), *at(furthest, up), "grid"), text(left - 6, at(0, up)[1] + 4, short(up), "quiet", "end")]
     for row in panel["rows"]:
