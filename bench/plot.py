@@ -28,6 +28,7 @@ LABELS = 300  # width for the labels of bars
 PANEL = 190  # height of the field of a panel of lines
 COLOURS = ["a", "b", "c", "d"]  # classes of the series, in order
 STYLE = """
+.ground { fill: #ffffff }
 text { font: 13px system-ui, sans-serif; fill: #24292f }
 .title { font-weight: 600; font-size: 15px }
 .quiet { fill: #57606a; font-size: 11px }
@@ -38,6 +39,7 @@ text { font: 13px system-ui, sans-serif; fill: #24292f }
 .c { fill: #1a7f37; stroke: #1a7f37 } .d { fill: #8250df; stroke: #8250df }
 .line { fill: none; stroke-width: 2 }
 @media (prefers-color-scheme: dark) {
+.ground { fill: #0d1117 }
 text { fill: #e6edf3 } .quiet { fill: #8d96a0 } .axis { stroke: #6e7681 } .grid { stroke: #30363d }
 .box { fill: #21262d; stroke: #6e7681 }
 .a { fill: #58a6ff; stroke: #58a6ff } .b { fill: #f0883e; stroke: #f0883e }
@@ -145,7 +147,8 @@ KINDS = {"bars": bars, "lines": lines}
 def picture(title, drawn, height):
     """A whole picture."""
     head = f'<svg xmlns="http://www.w3.org/2000/svg" viewBox="0 0 {WIDTH} {height:.0f}" width="{WIDTH}" height="{height:.0f}" role="img">'
-    return "\n".join([head, f"<title>{html.escape(title)}</title>", f"<style>{STYLE}</style>", *drawn, "</svg>", ""])
+    ground = rectangle(0, 0, WIDTH, height, "ground")
+    return "\n".join([head, f"<title>{html.escape(title)}</title>", f"<style>{STYLE}</style>", ground, *drawn, "</svg>", ""])
 
 
 def figures_drawn(figures):
