@@ -174,7 +174,7 @@ def parser_of(tool, describe, *names):
     return parser
 
 
-def bring_as(tool, words, path, documents, file=""):
-    """Brings documents in as the words of a script say; the path is that of their source, and `file` as in `Options`."""
-    options = Options(words.whole, words.prune, not words.no_merge, words.verbose, words.wait, words.moved_from, file)
+def bring_as(tool, words, path, documents, file="", may_pause=False):
+    """Brings documents in as the words of a script say; the path is that of their source, the others as in `Options`."""
+    options = Options(words.whole, words.prune, not words.no_merge, words.verbose, words.wait, words.moved_from, file, may_pause)
     return bring(tool, words.index, Source(tool, path), documents, options, words.fast)

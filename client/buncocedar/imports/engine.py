@@ -84,7 +84,8 @@ def was_done(reply):
 class Options(NamedTuple):
     """How an import is to be done, as its words say. `moved_from` is where its folder or archive stood before.
 
-    `file` is the one that is read, where all files are one source, and empty where that is no file.
+    `file` is the one that is read, where all files are one source, and empty where that is no file. `may_pause` says that the source
+    may give nothing for a while, as a pipe: what it gave before is sent meanwhile.
     """
 
     whole: bool = False
@@ -94,6 +95,7 @@ class Options(NamedTuple):
     wait: float = 10.0
     moved_from: Optional[str] = None
     file: str = ""
+    may_pause: bool = False
 
 
 class Import:
@@ -291,6 +293,9 @@ class Import:
         try:
             for document in interrupts.each(documents):
                 self.take(document)
+                if self.options.may_pause:
+                    # Changes wait for others, to be written together: there may be none for long.
+                    self.index.settle(0)
                 self.collect()
                 self.log.progress(lambda: self.summary.so_far(len(self.sent)))
                 if self.stamps.fault:

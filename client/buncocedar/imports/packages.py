@@ -87,4 +87,4 @@ def main(arguments=None):
     path = os.path.realpath(options.file) if options.file and os.path.isfile(options.file) else None
     with source:
         # All files of descriptions are one source, since a package may stand in each.
-        return bring_as("packages", options, "packages", packages(source, path), path or "")
+        return bring_as("packages", options, "packages", packages(source, path), path or "", may_pause=path is None)
