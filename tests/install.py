@@ -54,6 +54,7 @@ class Client(unittest.TestCase):
         self.assertIn("found 0\n", done(self.bunco, "find", path, "dog", env=self.environment, status=1))
         asked = done(self.bunco, "shell", path, env=self.environment, input="count fox\n")
         self.assertEqual(asked, "found 1\n")
+        self.assertTrue(os.path.exists(os.path.join(self.place, "buncocedar", "web", "assets", "page.js")))
         # What is installed is what the checkout has, command for command.
         checkout = os.path.join(TOP, "bunco")
         self.assertEqual(done(self.bunco, "--help", env=self.environment), done(checkout, "--help"))

@@ -154,7 +154,7 @@ class Case(unittest.TestCase):
         """A page over the index, served by a thread of this process."""
         questions = Questions(self.path, **{"patience": 0.2, **options})
         self.addCleanup(questions.close)
-        server = web.Server(("127.0.0.1", 0), lambda base: web.Site(Library(questions), base), url, self.said.append)
+        server = web.Server(("127.0.0.1", 0), web.Site(Library(questions)), url, self.said.append)
         thread = threading.Thread(target=server.serve_forever, kwargs={"poll_interval": 0.02})
         thread.start()
         self.addCleanup(thread.join)
@@ -348,9 +348,11 @@ class Hosts(Case):
     def test_names(self):
         self.many(1)
         self.site()
-        for host in (f"127.0.0.1:{self.port}", f"localhost:{self.port}", f"LOCALHOST:{self.port}", f"[::1]:{self.port}"):
+        # Also through a tunnel, which has another port, and from another machine, where others may reach it.
+        for host in (f"127.0.0.1:{self.port}", "localhost:9000", "LOCALHOST", "[::1]:9000", "192.168.1.5:8033"):
             self.ask("/", host=host)
-        for host in ("evil.example", f"evil.example:{self.port}", "localhost", "127.0.0.1:1", ""):
+        named = f"evil.example:{self.port}"
+        for host in ("evil.example", named, "localhost.evil.example", "127.0.0.1.evil.example", "[evil.example]", "a:b:c", ""):
             for target in ("/", "/api/search?q=quick", "/style.css"):
                 self.ask(target, 421, host=host)
 
@@ -365,6 +367,7 @@ class Hosts(Case):
         self.many(1)
         self.site()
         self.assertIn(f'template="http://127.0.0.1:{self.port}/?q={{searchTerms}}"', self.ask("/opensearch.xml"))
+        self.assertIn('template="http://localhost:9000/?q={searchTerms}"', self.ask("/opensearch.xml", host="localhost:9000"))
         self.assertIn('href="./opensearch.xml" type="application/opensearchdescription+xml"', self.ask("/"))
 
 
@@ -544,7 +547,7 @@ class InABrowser(Case):
         server = self.site()
         self.browser.events.clear()
         self.browser.show_as(1000, 700)
-        self.browser.open(f"{server.url[:-1]}{target}")
+        self.browser.open(f"{server.address()[:-1]}{target}")
         return self.browser
 
     def test_answers_as_one_types(self):
@@ -636,7 +639,7 @@ class InABrowser(Case):
         self.addCleanup(os.chdir, before)
         self.bunco("mail", self.path, self.write("mail.mbox", PICTURED))
         self.bunco("folder", self.path, os.path.dirname(self.write("notes/garden.txt", "sow peas\nthe fox was at the fence again\n")))
-        address, browser = self.site().url, self.browser
+        address, browser = self.site().address(), self.browser
         browser.show_as(900, 560)
         browser.open(f"{address}?q=fox&order=newest")
         browser.picture(os.path.join(folder, "web-answers.png"))

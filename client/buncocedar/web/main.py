@@ -39,7 +39,7 @@ def port_of(text: str) -> int:
 def url_of(text: str) -> str:
     """An address of the web, with a `/` at its end."""
     parts = urlsplit(text)
-    if parts.scheme not in ("http", "https") or not parts.netloc or parts.query or parts.fragment:
+    if parts.scheme not in ("http", "https") or not parts.netloc or "@" in parts.netloc or parts.query or parts.fragment:
         raise ValueError
     return text if text.endswith("/") else f"{text}/"
 
@@ -77,12 +77,12 @@ def end(number: int, frame: Any) -> None:
 def serve(options: argparse.Namespace, questions: Questions) -> None:
     """Serves the page until an interrupt."""
     library = Library(questions, options.source)
-    with Server((options.listen, options.port), lambda url: Site(library, url), options.url or "", say) as server:
+    with Server((options.listen, options.port), Site(library), options.url or "", say) as server:
         if not is_own(options.listen):
             say(f"whoever reaches {options.listen} may read every document")
-        say(f"the page is at {server.url}")
+        say(f"the page is at {server.address()}")
         if options.open:
-            webbrowser.open(server.url)
+            webbrowser.open(server.address())
         signal.signal(signal.SIGTERM, end)
         try:
             server.serve_forever(poll_interval=0.2)

@@ -1,14 +1,15 @@
 """The web server of the page: it answers whoever reaches it, under the names that it knows, and only to read.
 
 Each client has a connection for each request, 32 at once at most. No file is given out but those of `assets/`, and the documents
-that the stamps of the index name. A request under another host name is refused, so that no page of another site reaches this one
-by a name that leads here.
+that the stamps of the index name. A request under an unknown host name is refused: any web site can have a name that leads here, and
+its scripts may read what they get under that. No site has an address in the place of a name.
 """
 
 from __future__ import annotations
 
 import contextlib
 import http.server
+import ipaddress
 import json
 import os
 import socket
@@ -69,10 +70,11 @@ class Reply(NamedTuple):
 
 
 class Asked(NamedTuple):
-    """What an address asks for."""
+    """What an address asks for; `base` is where people reach the page, with a `/` at its end."""
 
     path: str
     fields: Dict[str, str]
+    base: str
 
     def field(self, name: str, default: str = "") -> str:
         return self.fields.get(name, default)
@@ -82,11 +84,10 @@ class Asked(NamedTuple):
 
 
 class Site:
-    """What the server answers, by address. `base` is where people reach the page, with a `/` at its end."""
+    """What the server answers, by address."""
 
-    def __init__(self, library: Library, base: str) -> None:
+    def __init__(self, library: Library) -> None:
         self.library = library
-        self.base = base
         self.routes: Dict[str, Callable[[Asked], Reply]] = {
             "/": self.search,
             "/document": self.document,
@@ -139,7 +140,7 @@ class Site:
 
     def open_search(self, asked: Asked) -> Reply:
         """The description by which a browser takes the page as a search engine (OpenSearch 1.1)."""
-        return Reply(200, "application/opensearchdescription+xml", OPEN_SEARCH.format(base=self.base).encode())
+        return Reply(200, "application/opensearchdescription+xml", OPEN_SEARCH.format(base=asked.base).encode())
 
     # -- For programs.
 
@@ -181,13 +182,13 @@ def asset(path: str) -> Reply:
         return Reply(200, ASSETS[path], file.read())
 
 
-def asked_of(target: str) -> Asked:
+def asked_of(target: str, base: str) -> Asked:
     """What the target of a request asks for. Raises `ValueError` where it is none."""
     if len(target) > REQUEST_LIMIT or not target.startswith("/"):
         raise ValueError("no address of this site")
     parts = urlsplit(target)
     fields = parse_qs(parts.query, max_num_fields=FIELDS, errors="replace")
-    return Asked(parts.path, {name: values[0] for name, values in fields.items()})
+    return Asked(parts.path, {name: values[0] for name, values in fields.items()}, base)
 
 
 class Handler(http.server.BaseHTTPRequestHandler):
@@ -206,10 +207,11 @@ class Handler(http.server.BaseHTTPRequestHandler):
 
     def reply(self) -> Reply:
         """The reply to the request, whatever happens."""
-        if self.headers.get("Host", "").lower() not in self.server.hosts:
+        host = self.headers.get("Host", "").lower()
+        if not self.server.knows(host):
             return failure(421, "This site has another name: start bunco web with --url, where it is reached by this one.")
         try:
-            asked = asked_of(self.path)
+            asked = asked_of(self.path, self.server.url or f"http://{host}/")
         except ValueError:
             return failure(400, "This is no address of this site.")
         try:
@@ -239,19 +241,27 @@ class Handler(http.server.BaseHTTPRequestHandler):
 
 
 class Server(http.server.ThreadingHTTPServer):
-    """The listening socket. `hosts` are the names, with their ports, under which the page is reached."""
+    """The listening socket; `url` is where a web server that stands before it is reached, empty where there is none."""
 
     request_queue_size = CLIENTS
     daemon_threads = True
 
-    def __init__(self, place: Tuple[str, int], site_of: Callable[[str], Site], url: str = "", say: Callable[[str], None] = print) -> None:
+    def __init__(self, place: Tuple[str, int], site: Site, url: str = "", say: Callable[[str], None] = print) -> None:
         self.address_family = socket.AF_INET6 if ":" in place[0] else socket.AF_INET
         super().__init__(place, Handler)
         self.say = say
         self.clients = threading.BoundedSemaphore(CLIENTS)
-        self.url = url or f"http://{host_of(place[0])}:{self.server_port}/"
-        self.hosts = hosts_of(place[0], self.server_port, self.url)
-        self.site = site_of(self.url)
+        self.url = url
+        self.site = site
+
+    def address(self) -> str:
+        """Where the page is."""
+        return self.url or f"http://{host_of(self.server_name)}:{self.server_port}/"
+
+    def knows(self, host: str) -> bool:
+        """Whether the page may be asked for under this host: an address, this machine's own name for itself, or the name of the URL."""
+        name = host.partition("]")[0][1:] if host.startswith("[") else host.partition(":")[0]
+        return name == "localhost" or is_address(name) or bool(host) and host == urlsplit(self.url).netloc.lower()
 
     def server_bind(self) -> None:
         """Without the look for this machine's name that http.server does, which may take long and is not needed."""
@@ -295,10 +305,10 @@ def host_of(address: str) -> str:
     return f"[{address}]" if ":" in address else address
 
 
-def hosts_of(address: str, port: int, url: str) -> frozenset:
-    """The names under which the page may be asked for: of this machine, of the address, and of the URL."""
-    names = {"127.0.0.1", "localhost", "[::1]", host_of(address)}
-    given = urlsplit(url).netloc.rpartition("@")[2].lower()
-    # A browser leaves the port out where it is the usual one.
-    usual = names if port == 80 else set()
-    return frozenset({f"{name}:{port}" for name in names} | usual | {given})
+def is_address(name: str) -> bool:
+    """Whether a host is an address, and no name that somebody has."""
+    try:
+        ipaddress.ip_address(name)
+    except ValueError:
+        return False
+    return True
