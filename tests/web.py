@@ -29,6 +29,7 @@ from support import BUNCO, PATIENCE, run_tests, until  # isort: skip
 import fake
 from browser import Browser, chromium
 from buncocedar import Index
+from buncocedar.shards import make, open_index
 from buncocedar.web import server as web
 from buncocedar.web.answers import Library, Piece, pieces_of
 from buncocedar.web.markup import Markup, element, escaped
@@ -257,6 +258,27 @@ class Pages(Case):
             self.assertEqual(set(seen), {f"n{number}" for number in range(1, 46)})
             if last:
                 self.assertEqual(seen[:2], ["n45", "n44"])
+
+    def test_pages_of_shards(self):
+        make(self.path, 3)
+        with open_index(self.path) as index:
+            for number in range(1, 46):
+                index.add(f"n{number}", "", "quick")
+        self.site()
+        seen, target = [], "/?q=quick&order=newest"
+        while target:
+            names, target = self.names(target)
+            seen += names
+        self.assertEqual((len(seen), set(seen)), (45, {f"n{number}" for number in range(1, 46)}))
+        self.assertEqual(len(self.names("/?q=quick")[0]), 20)
+
+    def test_a_row_that_is_gone(self):
+        self.many(45)
+        site = self.site()
+        names, following = self.names("/?q=quick&order=newest")
+        with site.site.library.questions.asked() as index:
+            index.delete(names[-1])
+        self.assertEqual(self.names(following)[0], [f"n{number}" for number in range(25, 5, -1)])
 
     def test_what_is_added_meanwhile_comes_on_no_later_page(self):
         self.many(25)

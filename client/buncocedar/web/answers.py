@@ -13,12 +13,11 @@ from ..document import Text
 from ..errors import CAUSES, QueryFault, Refused
 from ..imports import mail
 from ..imports.stamps import Found, name_of
-from ..index import Index
 from ..replies import MOST_BEST
 from ..tools.documents import Places, text_at
 from ..tools.find import Best, whole_documents
 from ..tools.matching import Wanted
-from .questions import Questions
+from .questions import AnyIndex, Questions
 
 ROWS = 20  # of a page
 QUERY_LIMIT = 2_000  # characters of a query
@@ -168,6 +167,34 @@ def named_before(raw: bytes) -> List[str]:
     return list(dict.fromkeys(mail.decoded(one) for one in IDENTIFIER.findall(said)))[:MOST_LINKED]
 
 
+class LastRows:
+    """The last rows of an answer that stand before the row of a number, one more than a page has; all where there is no number.
+
+    Where that row is gone, those of lower numbers stand for them. The rows of shards do not rise by number.
+    """
+
+    def __init__(self, before: Optional[int]) -> None:
+        self.before = before
+        self.total = 0
+        self.is_found = before is None
+        self.above: "collections.deque[Tuple[int, str, None]]" = collections.deque(maxlen=ROWS + 1)
+        self.lower: "collections.deque[Tuple[int, str, None]]" = collections.deque(maxlen=ROWS + 1)
+
+    def take(self, number: int, name: str) -> None:
+        """The next row."""
+        self.total += 1
+        if number == self.before:
+            self.is_found = True
+        elif self.before is None or not self.is_found:
+            self.above.append((number, name, None))
+        if self.before is not None and number < self.before:
+            self.lower.append((number, name, None))
+
+    def rows(self) -> "list":
+        """The rows, the last one first."""
+        return list(reversed(self.above if self.is_found else self.lower))
+
+
 # --- The library: the index and what stands behind its answers.
 
 
@@ -212,24 +239,20 @@ class Library:
         until = time.monotonic() + SNIPPET_SECONDS
         return Answers(query, order, found, [self._answer(places, wanted, until, *row) for row in rows], following)
 
-    def _best(self, index: Index, query: str, begin: str, places: Places) -> "Tuple[int, list, str]":
+    def _best(self, index: AnyIndex, query: str, begin: str, places: Places) -> "Tuple[int, list, str]":
         at = min(int(begin), MOST_BEST - ROWS) if begin.isdecimal() and len(begin) < 5 else 0
         best = Best(index, query, min(at + ROWS + 1, MOST_BEST), places)
         rows = list(best)[at : at + ROWS]
         has_more = len(list(best)) > at + ROWS
         return best.total, rows, str(at + ROWS) if has_more else ""
 
-    def _newest(self, index: Index, query: str, begin: str, places: Places) -> "Tuple[int, list, str]":
-        """The rows before a number, the last ones first: whatever is added meanwhile, no row comes twice."""
-        before = int(begin) if begin.isdecimal() and len(begin) < 20 else None
-        last: "collections.deque[Tuple[int, str, None]]" = collections.deque(maxlen=ROWS + 1)
-        total = 0
-        for number, name in whole_documents(index.search(query), places):
-            total += 1
-            if before is None or number < before:
-                last.append((number, name, None))
-        rows = list(reversed(last))
-        return total, rows[:ROWS], str(rows[ROWS - 1][0]) if len(rows) > ROWS else ""
+    def _newest(self, index: AnyIndex, query: str, begin: str, places: Places) -> "Tuple[int, list, str]":
+        """The rows before that of a number, the last ones first: whatever is added meanwhile, no row comes twice."""
+        last = LastRows(int(begin) if begin.isdecimal() and len(begin) < 20 else None)
+        for row in whole_documents(index.search(query), places):
+            last.take(*row)
+        rows = last.rows()
+        return last.total, rows[:ROWS], str(rows[ROWS - 1][0]) if len(rows) > ROWS else ""
 
     def _answer(
         self, places: Places, wanted: Wanted, until: float, number: int, name: str, score: Optional[int]

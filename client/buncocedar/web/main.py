@@ -49,7 +49,7 @@ def parser() -> argparse.ArgumentParser:
     parser = argparse.ArgumentParser(
         prog="bunco web", description=__doc__, formatter_class=argparse.RawDescriptionHelpFormatter
     )
-    parser.add_argument("index", metavar="INDEX")
+    parser.add_argument("index", metavar="INDEX", help="an index, or a folder of shards")
     parser.add_argument("--port", metavar="N", type=port_of, default=8033, help="the port, 8033 without this; 0 takes a free one")
     parser.add_argument("--open", action="store_true", help="open the page in the browser")
     parser.add_argument("--url", metavar="URL", type=url_of, help="where your own web server is reached that stands before it")

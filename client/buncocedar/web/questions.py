@@ -5,15 +5,18 @@ from __future__ import annotations
 import contextlib
 import threading
 import time
-from typing import Iterator, Optional
+from typing import Iterator, Optional, Union
 
 from ..errors import Ended, Error, Refused
 from ..index import Index
+from ..shards import ShardedIndex, open_index
 
 PATIENCE = 3.0  # seconds that a question waits for who has the index open
 TURN_SECONDS = 10.0  # that it waits for the questions before it
 QUESTION_SECONDS = 20.0  # that it may take
 IDLE_SECONDS = 2.0  # without a question, before the index is closed
+
+AnyIndex = Union[Index, ShardedIndex]
 
 
 class Busy(Exception):
@@ -21,7 +24,7 @@ class Busy(Exception):
 
 
 class Questions:
-    """The index at a path, by its server where one listens, and else by a program of its own."""
+    """The index at a path, a file or a folder of shards: by its server where one listens, and else by programs of its own."""
 
     def __init__(
         self,
@@ -35,14 +38,14 @@ class Questions:
         self.seconds = seconds
         self.idle = idle
         self._turn = threading.Lock()
-        self._index: Optional[Index] = None
+        self._index: Optional[AnyIndex] = None
         self._asked_at = 0.0
         self._ends = threading.Event()
         self._tidies = threading.Thread(target=self._close_idle, daemon=True)
         self._tidies.start()
 
     @contextlib.contextmanager
-    def asked(self) -> Iterator[Index]:
+    def asked(self) -> Iterator[AnyIndex]:
         """The index, for one thread at a time. Raises `Busy` where it can't be had, or takes too long; a `Refused` is handed on."""
         if not self._turn.acquire(timeout=TURN_SECONDS):
             raise Busy("too many questions wait for the index")
@@ -65,7 +68,7 @@ class Questions:
             self._drop()
 
     @contextlib.contextmanager
-    def _limited(self, index: Index) -> Iterator[Index]:
+    def _limited(self, index: AnyIndex) -> Iterator[AnyIndex]:
         """A question that takes too long is broken off, with its program."""
         timer = threading.Timer(self.seconds, index.break_off)
         timer.daemon = True
@@ -80,7 +83,7 @@ class Questions:
         finally:
             timer.cancel()
 
-    def _opened(self) -> Index:
+    def _opened(self) -> AnyIndex:
         """The index that is open still, or is opened anew."""
         if self._index is not None:
             try:
@@ -88,7 +91,7 @@ class Questions:
                 return self._index
             except Error:
                 self._drop()
-        self._index = Index(self.path, patience=self.patience)
+        self._index = open_index(self.path, patience=self.patience)
         return self._index
 
     def _drop(self) -> None:
