@@ -134,6 +134,11 @@ def lanes_folder(parent):
         yield folder, handle
 
 
+def out_of(top, name):
+    """Where a crate keeps what was made of it."""
+    return f"{top}/crates/{name}/out"
+
+
 def link_or_copy(one, other):
     try:
         os.link(one, other)
@@ -150,7 +155,7 @@ class Build:
         self.copies = list(self.free)
         self.running = set()
         self.stopped = False
-        self.guard = threading.Lock()
+        self.guard = threading.Condition()
         for copy in self.copies:
             shutil.copytree(f"{TOP}/crates", f"{copy}/crates", ignore=shutil.ignore_patterns("out"))
             for file in ("crates.txt", "HANDLES"):
@@ -174,14 +179,19 @@ class Build:
         said, _ = process.communicate()
         with self.guard:
             self.running.discard(process)
+            self.guard.notify_all()
         return said, process.returncode
 
     def stop(self):
-        """Ends the proofs that go on, which end all that they have begun."""
+        """Ends the proofs that go on, which end all that they have begun, and waits until what was moved is back.
+
+        A pool waits for no thread that it started as a signal came, so that this does not go by its threads.
+        """
         with self.guard:
             self.stopped = True
             for process in self.running:
                 process.terminate()
+            self.guard.wait_for(lambda: not self.running and len(self.free) == len(self.copies))
 
     def prove(self, name, jobs):
         """Proves a crate, and builds it where it is the program: what was said, and whether it is proved."""
@@ -191,14 +201,30 @@ class Build:
         said, _ = self.call(HOME, "run")
         return said, os.access(BUILT, os.X_OK)
 
-    def prove_library(self, name, jobs):
-        """Proves a library in a free copy, and hands it to the others."""
-        copy = self.free.pop()
-        home, here = f"{TOP}/crates/{name}/out", f"{copy}/crates/{name}/out"
-        try:
+    def take_copy(self, name):
+        """A free copy, into which what the crate has in out/ was moved; None once the build is stopped."""
+        with self.guard:
+            if self.stopped:
+                return None
+            copy = self.free.pop()
+            home, here = out_of(TOP, name), out_of(copy, name)
             if os.path.isdir(home):
                 shutil.rmtree(here, ignore_errors=True)
                 os.rename(home, here)
+            return copy
+
+    def give_back(self, copy):
+        with self.guard:
+            self.free.append(copy)
+            self.guard.notify_all()
+
+    def prove_library(self, name, jobs):
+        """Proves a library in a free copy, and hands it to the others."""
+        copy = self.take_copy(name)
+        if copy is None:
+            return "", False
+        home, here = out_of(TOP, name), out_of(copy, name)
+        try:
             try:
                 said, status = self.call(os.path.dirname(here), "lib", "--jobs", str(jobs))
             finally:
@@ -206,9 +232,9 @@ class Build:
                     os.rename(here, home)
             if status == 0:
                 for other in self.copies:
-                    shutil.copytree(f"{home}/rlib", f"{other}/crates/{name}/out/rlib", copy_function=link_or_copy)
+                    shutil.copytree(f"{home}/rlib", f"{out_of(other, name)}/rlib", copy_function=link_or_copy)
         finally:
-            self.free.append(copy)
+            self.give_back(copy)
         return said, status == 0
 
 
