@@ -1,5 +1,5 @@
 #!/usr/bin/env python3
-"""Tests that the client installs: from a checkout by pip, without a network.
+"""Tests that the client installs by pip, without a network, from its folder alone: without a program, which `packages.py` tests.
 
 usage: tests/install.py --program PATH
 
@@ -33,10 +33,12 @@ class Client(unittest.TestCase):
         cls.addClassCleanup(folder.cleanup)
         cls.place = os.path.join(folder.name, "installed")
         cls.folder = folder.name
-        before = sorted(os.listdir(os.path.join(TOP, "client")))
-        words = ["install", "--quiet", "--no-index", "--no-deps", "--target", cls.place, os.path.join(TOP, "client")]
+        client = os.path.join(folder.name, "client")
+        shutil.copytree(os.path.join(TOP, "client"), client, ignore=shutil.ignore_patterns("__pycache__"))
+        before = sorted(os.listdir(client))
+        words = ["install", "--quiet", "--no-index", "--no-deps", "--target", cls.place, client]
         done(*pip, *words, env={**os.environ, "PIP_ROOT_USER_ACTION": "ignore"})
-        assert sorted(os.listdir(os.path.join(TOP, "client"))) == before, "pip has left something in the checkout"
+        assert sorted(os.listdir(client)) == before, "pip has left something in the folder"
         cls.bunco = os.path.join(cls.place, "bin", "bunco")
         cls.environment = {**os.environ, "PYTHONPATH": cls.place, "BUNCOCEDAR_PROGRAM": PROGRAM}
 
