@@ -98,7 +98,7 @@ def panels_of(grown):
     """The panels of a picture of how these grow: of each size of text in megabytes the program's and FTS5's."""
     drawn = {
         "adding": ("adds and merges, processor time", "s"),
-        "opening": ("an opening, processor time", "ms"),
+        "opening": ("an opening before the last merge, processor time", "ms"),
         "memory": ("memory at most", "MiB"),
         "size": ("the merged index", "MB"),
     }
