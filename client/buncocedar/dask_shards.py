@@ -18,7 +18,7 @@ import os
 import pickle
 import threading
 import time
-from typing import Any, Dict, List, Optional
+from typing import Any, Dict, List, Optional, cast
 
 try:
     from distributed import Client
@@ -61,8 +61,9 @@ class OfWorker:
         patience, method, args = pickle.loads(data)
         with _one_at_a_time:
             try:
-                _shelf.patience = patience
-                return pickle.dumps((getattr(_shelf, method)(*args), None))
+                shelf = cast(Shelf, _shelf)
+                shelf.patience = patience
+                return pickle.dumps((getattr(shelf, method)(*args), None))
             except Exception as error:
                 return pickle.dumps((None, error))
 
