@@ -18,11 +18,12 @@ import os
 import pickle
 import threading
 import time
-from typing import Any, Dict, List, Optional, cast
+from concurrent.futures import Future
+from concurrent.futures import TimeoutError as NoAnswerYet
+from typing import Any, Dict, List, Optional
 
 try:
     from distributed import Client
-    from distributed import TimeoutError as NoAnswerYet
 except ImportError as error:
     raise ImportError("shards on workers need dask.distributed: Debian's package python3-distributed has it") from error
 
@@ -61,9 +62,9 @@ class OfWorker:
         patience, method, args = pickle.loads(data)
         with _one_at_a_time:
             try:
-                shelf = cast(Shelf, _shelf)
-                shelf.patience = patience
-                return pickle.dumps((getattr(shelf, method)(*args), None))
+                assert _shelf is not None
+                _shelf.patience = patience
+                return pickle.dumps((getattr(_shelf, method)(*args), None))
             except Exception as error:
                 return pickle.dumps((None, error))
 
@@ -72,30 +73,35 @@ class OfWorker:
 
 
 class Answer:
-    """The future of a call. Dask's own waits for a worker that is gone without an end."""
+    """What a call answers, once a worker has said it; Dask's own future waits for a worker that is gone without an end."""
 
-    def __init__(self, place: OnWorker, future: Any, error: Optional[Exception] = None):
+    def __init__(self, place: Any, told: Future):
         self.place = place
-        self.future = future
-        self.error = error
+        self.told = told
 
     def result(self, seconds: float) -> Any:
         """What the method answers or raises; an `Error` where the worker is lost, `TimeoutError` where it takes too long."""
         until = time.monotonic() + seconds
-        while self.error is None:
+        while True:
             left = until - time.monotonic()
             try:
-                told, self.error = pickle.loads(self.future.result(max(0.001, min(left, LOOK_SECONDS))))
-                if self.error is None:
-                    return told
+                told, error = pickle.loads(self.told.result(max(0.001, min(left, LOOK_SECONDS))))
+                break
             except NoAnswerYet:
                 if self.place.is_lost():
-                    self.error = Error("the worker is lost")
-                elif left < LOOK_SECONDS:
+                    raise Error("the worker is lost") from None
+                if left < LOOK_SECONDS:
                     raise TimeoutError(f"no answer in {seconds:g} seconds") from None
-            except Exception as error:
-                self.error = error
-        raise self.error
+        if error is not None:
+            raise error
+        return told
+
+
+def failed(error: Exception) -> Future:
+    """A future that has failed."""
+    future: Future = Future()
+    future.set_exception(error)
+    return future
 
 
 class OnWorker:
@@ -103,20 +109,32 @@ class OnWorker:
 
     is_apart = True
 
-    def __init__(self, name: str, future: Any, actor: Any, patience: float):
+    def __init__(self, name: str, future: Any, actor: Any, client: Any, patience: float):
         self.name = name
         self.future = future  # the actor lives as long as a client has this
         self.actor = actor
+        self.client = client
         self.patience = patience
 
     def is_lost(self) -> bool:
         return self.future.status not in ("finished", "pending")
 
     def call(self, method: str, *args: Any) -> Answer:
+        told: Future = Future()
         try:
-            return Answer(self, self.actor.do(pickle.dumps((self.patience, method, args))))
+            said = self.actor.do(pickle.dumps((self.patience, method, args)))
         except ValueError as lost:
-            return Answer(self, None, Error(str(lost)))
+            return Answer(self, failed(Error(str(lost))))
+
+        async def hand_on():
+            try:
+                told.set_result(await said)
+            except Exception as error:
+                told.set_exception(error)
+
+        # Its own `result` leaves a failure in the loop for each wait that ends in between.
+        self.client.loop.add_callback(hand_on)
+        return Answer(self, told)
 
     def close(self) -> None:
         """Lets the actor go; the shelf stays, with its worker."""
@@ -138,7 +156,7 @@ class Unbegun:
         self.error = error
 
     def call(self, method: str, *args: Any) -> Answer:
-        return Answer(self, None, Error(f"its shelf could not be begun: {self.error}"))  # type: ignore[arg-type]
+        return Answer(self, failed(Error(f"its shelf could not be begun: {self.error}")))
 
     def close(self) -> None:
         pass
@@ -185,7 +203,7 @@ class Workers:
     def _place(self, run, address, future):
         """Takes a worker's shelf for a place that is known, or answers one that says why there is none."""
         try:
-            self.known[run] = OnWorker(address, future, future.result(SECONDS_TO_BEGIN), self.patience)
+            self.known[run] = OnWorker(address, future, future.result(SECONDS_TO_BEGIN), self.client, self.patience)
             return None
         except Exception as error:
             future.cancel()
