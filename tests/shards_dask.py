@@ -230,7 +230,7 @@ def main():
     program = os.path.abspath(options.program) if options.program else fake.installed()
     chance = random.Random(options.seed)
     # What Dask says of connections that are lost is what is tested here.
-    logging.getLogger("distributed").setLevel(logging.CRITICAL)
+    logging.disable(logging.CRITICAL)
     with tempfile.TemporaryDirectory() as folder:
         cluster = Cluster(spread(folder, options.shards, options.machines, program), program)
         try:
