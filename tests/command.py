@@ -85,6 +85,22 @@ class Help(Case):
         self.assertEqual(self.bunco("completion", "fish", status=2), ("", "usage: bunco completion bash | zsh\n"))
         self.assertEqual(self.bunco("--version"), (f"bunco {__version__}\n", ""))
 
+    def test_closed_streams(self):
+        self.filled()
+        for words in (["--help"], ["dump", self.path], ["find", self.path, "fox"]):
+            for closed, status in ((">&-", 3), (">/dev/full", 3), ("<&-", 0), ("2>&-", 0), ("<&- >&- 2>&-", 3)):
+                command = ["sh", "-c", f'exec "$@" {closed}', "sh", sys.executable, "-S", BUNCO, *words]
+                done = subprocess.run(command, env={**os.environ, "BUNCOCEDAR_PROGRAM": self.program}, capture_output=True, text=True)
+                self.assertEqual(done.returncode, status, (words, closed, done.stderr))
+                self.assertNotIn("Traceback", done.stderr, (words, closed))
+                self.assertEqual(bool(done.stderr), status == 3 and "2>" not in closed, (words, closed, done.stderr))
+
+    def test_a_reader_that_has_enough(self):
+        theirs, ours = os.pipe()
+        os.close(theirs)
+        with open(ours, "w") as closed:
+            self.assertEqual(self.bunco("completion", "zsh", stdout=closed), (None, ""))
+
     def test_as_a_module(self):
         done = subprocess.run(
             [sys.executable, "-m", "buncocedar", "--version"],

@@ -422,6 +422,27 @@ class Limits(Case):
             self.assertEqual(self.connect().recv(100), b"")
         self.assertEqual(self.said, [])
 
+    def test_a_client_that_sends_a_byte_now_and_then(self):
+        self.many(1)
+        with unittest.mock.patch.object(web.Handler, "timeout", 0.5):
+            self.site()
+            connection = self.connect()
+            connection.setblocking(False)
+            sent = 0
+
+            def is_ended():
+                nonlocal sent
+                with contextlib.suppress(BlockingIOError):
+                    if connection.recv(100) == b"":
+                        return True
+                connection.send(b"GET /"[sent : sent + 1] or b"x")
+                sent += 1
+
+            with contextlib.suppress(ConnectionError):
+                until(is_ended)
+        self.assertGreater(sent, 5)
+        self.assertEqual(self.said, [])
+
     def test_a_client_that_has_gone(self):
         self.many(1)
         self.site()

@@ -3,11 +3,14 @@
 from __future__ import annotations
 
 import importlib
+import os
 import shutil
+import signal
 import sys
 from typing import List, NamedTuple, Optional
 
 BAD_USE = 2
+STOPPED = 3
 
 
 class Command(NamedTuple):
@@ -97,9 +100,8 @@ def version(words: List[str]) -> int:
 WORDS = {"help": help_on, "--help": help_on, "-h": help_on, "completion": completion, "--version": version}
 
 
-def main(arguments: Optional[List[str]] = None) -> int:
+def run(words: List[str]) -> int:
     """Runs the command that the words name, and answers its exit status: 2 where there is none of this name."""
-    words = sys.argv[1:] if arguments is None else arguments
     if not words:
         print(usage(), file=sys.stderr)
         return BAD_USE
@@ -110,3 +112,36 @@ def main(arguments: Optional[List[str]] = None) -> int:
         return WORDS[words[0]](words[1:])
     print(f"bunco: {words[0]} is no command: bunco --help lists them", file=sys.stderr)
     return BAD_USE
+
+
+def open_closed_streams() -> None:
+    """Gives each standard stream that is closed a file: there is nothing to read, and what is written is refused as by a closed one."""
+    for number, name, mode in ((0, "stdin", "r"), (1, "stdout", "w"), (2, "stderr", "w")):
+        if getattr(sys, name) is None:
+            # The lowest number is taken, which is that of the stream.
+            file = os.open(os.devnull, os.O_WRONLY if number == 2 else os.O_RDONLY)
+            setattr(sys, name, open(file, mode, encoding="utf-8", errors="replace"))
+
+
+def discard_output() -> None:
+    """Lets what is still buffered go nowhere, so that the end says nothing of it."""
+    os.dup2(os.open(os.devnull, os.O_WRONLY), sys.stdout.fileno())
+
+
+def main(arguments: Optional[List[str]] = None) -> int:
+    """The command, from its words to its exit status: 3 where its output could not be written, and 130 behind an interrupt."""
+    open_closed_streams()
+    try:
+        status = run(sys.argv[1:] if arguments is None else arguments)
+        sys.stdout.flush()
+        return status
+    except KeyboardInterrupt:
+        return 128 + signal.SIGINT
+    except BrokenPipeError:
+        # Whoever reads has enough.
+        discard_output()
+        return 0
+    except OSError as error:
+        discard_output()
+        print(f"bunco: {error.filename + ': ' if error.filename else ''}{error.strerror or error}", file=sys.stderr)
+        return STOPPED

@@ -27,6 +27,7 @@ from .questions import Busy
 
 CLIENTS = 32  # at once
 REQUEST_SECONDS = 10  # that a client has to send its request, and to take a piece of the reply
+PIECE = 1 << 16  # bytes of a reply, at a time
 REQUEST_LIMIT = 16_384  # bytes of an address
 FIELDS = 20  # of an address
 ASSETS = {
@@ -200,7 +201,24 @@ class Handler(http.server.BaseHTTPRequestHandler):
     default_request_version = "HTTP/1.0"  # where a request says none, so that each reply has its headers
     timeout = REQUEST_SECONDS
 
+    def setup(self) -> None:
+        super().setup()
+        # A client that sends a byte now and then would never be too late for one of them.
+        self.patience = threading.Timer(self.timeout, self.break_off)
+        self.patience.daemon = True
+        self.patience.start()
+
+    def break_off(self) -> None:
+        """Takes no more from the client."""
+        with contextlib.suppress(OSError):
+            self.connection.shutdown(socket.SHUT_RD)
+
+    def finish(self) -> None:
+        self.patience.cancel()
+        super().finish()
+
     def do_GET(self) -> None:
+        self.patience.cancel()
         self.give(self.reply())
 
     do_HEAD = do_GET
@@ -230,7 +248,8 @@ class Handler(http.server.BaseHTTPRequestHandler):
             self.send_header(name, value)
         self.end_headers()
         if self.command != "HEAD":
-            self.wfile.write(reply.body)
+            for begin in range(0, len(reply.body), PIECE):
+                self.wfile.write(reply.body[begin : begin + PIECE])
 
     def send_error(self, code: int, message: Optional[str] = None, explain: Optional[str] = None) -> None:
         """What http.server refuses by itself, as an unknown method, in the form of all replies."""
