@@ -1,7 +1,8 @@
 #!/usr/bin/env python3
-"""Refuses a wrong body whose refusal shows nothing: tests/refusals.py [LOG]
+"""Refuses a wrong body whose refusal shows nothing: .ci/refusals.py [LOG]
 
-LOG is what `rt ci` or `rt must-fail` has printed; without it, this runs `rt must-fail` for all crates.
+LOG is what `rt ci` or `rt must-fail` has printed; without it, this runs `rt must-fail` for all crates. The gate does not run it yet: of the
+clauses that the edits name 31 were seen to refuse them, and the others were taken from reading the contracts.
 
 Each wrong body is a file crates/NAME/must-fail/EDIT.edit. Its line `clause: WORD` names what it breaks: a clause of a contract
 (`lazy`), `returns` where the function's one clause has no name, or the label of the loop whose invariant it breaks. The prover's
