@@ -50,7 +50,7 @@ from .links import default_program, server_path
 from .replies import MOST_BEST, Added, Dumped, Page, Reply, Scored, Skipped, Stats, Top
 from .texts import marked, name_ok
 
-__version__ = "0.1.0"
+__version__ = "0.2.0"
 __all__ = [
     "Added",
     "BadLine",
