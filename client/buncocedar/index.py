@@ -22,6 +22,8 @@ from .holders import Waiting, in_use, is_locked, turn
 from .links import Program, Service, connected, default_program
 from .making import holds_bytes, make_index
 
+HELD = "another program has the file open"  # that the program says of a lock which it does not get
+
 
 class Index(Commands):
     """An index in a file, by a program of its own that ends with `close` or at the end of a `with`.
@@ -75,9 +77,9 @@ class Index(Commands):
             try:
                 if is_free:
                     self._begin(Program(program, self.path))
-            except DiskFault:
-                # One that does not ask for its turn, as one by hand, may have been sooner.
-                if not is_locked(self.path):
+            except DiskFault as fault:
+                # One that does not ask for its turn, as one by hand, may have been sooner, and may have ended since.
+                if HELD not in fault.line and not is_locked(self.path):
                     raise
                 return False
             return is_free
