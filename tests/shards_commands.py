@@ -97,7 +97,7 @@ class Moving(Commands):
     def test_an_import_goes_on_behind_a_split(self):
         self.needs_the_program()
         source = os.path.join(self.top.name, "texts")
-        shutil.copytree(os.path.join(TOP, "docs"), source)
+        shutil.copytree(os.path.join(TOP, "docs"), source, ignore=shutil.ignore_patterns("*.png"))
         self.make(self.folder, 3)
         self.bunco("folder", self.folder, source)
         count = sum(len(names) for _, _, names in os.walk(source))
