@@ -496,7 +496,7 @@ class Folders(Case):
             Merging.merges.clear()
             if os.path.exists(self.path):
                 os.remove(self.path)
-            with few_levels(), mock.patch.object(bringing, "Index", Merging):
+            with few_levels(), mock.patch.object(bringing, "open_index", Merging):
                 with mock.patch.dict(os.environ, {"BUNCOCEDAR_PROGRAM": FAKE}), contextlib.redirect_stderr(io.StringIO()):
                     options = engine.Options(merge=merge)
                     self.assertEqual(bringing.bring("folder", self.path, source, folder.files(notes), options), 0)
@@ -863,7 +863,7 @@ class Sources(Case):
         self.folder("notes")
         for number in range(5):
             os.remove(self.at(f"notes/{number}"))
-        with mock.patch.object(bringing, "Index", Interrupting), mock.patch.dict(Interrupts.notes, clear=True):
+        with mock.patch.object(bringing, "open_index", Interrupting), mock.patch.dict(Interrupts.notes, clear=True):
             said = self.folder("--prune", "notes", expect=130)
         self.assertIn("3 documents of earlier runs not seen any more, and deleted", said)
         self.assertIn("2 documents of earlier runs not seen any more, and still in the index", said)
