@@ -588,6 +588,52 @@ class Traps(Case):
         self.assertEqual([type(error) for error in seen], [buncocedar.Ended])
         self.assertEqual(index.under_way(), 0)
 
+    def in_a_fork(self, work):
+        """What a fork of this process has to say of some work."""
+        read, write = os.pipe()
+        child = os.fork()
+        if child == 0:
+            try:
+                said = str(work())
+            except BaseException as error:
+                said = repr(error)
+            os.write(write, said.encode())
+            os._exit(0)
+        os.close(write)
+        with open(read) as file:
+            said = file.read()
+        os.waitpid(child, 0)
+        return said
+
+    def test_a_fork(self):
+        index = self.fake()
+        index.add("a", "", "fox")
+        cursor = index.cursor("fox")
+        for work in (index.stats, lambda: index.count("fox"), lambda: index.send_add("b", "", ""), lambda: cursor.page(1)):
+            self.assertIn("opened by another process, of which this is a fork", self.in_a_fork(work))
+        for work in (index.close, index.kill, index.break_off, lambda: index.__exit__(SystemExit, None, None)):
+            self.assertEqual(self.in_a_fork(work), "None")
+            self.assertEqual(index.count("fox"), 1)
+        index.close()
+
+    def test_a_fork_that_goes_on(self):
+        # It holds nothing that keeps the program at work, once its owner has closed it.
+        index = self.fake()
+        read, write = os.pipe()
+        child = os.fork()
+        if child == 0:
+            os.close(write)
+            os.read(read, 1)
+            os._exit(0)
+        os.close(read)
+        try:
+            index.close(seconds=PATIENCE)
+            with self.fake() as again:
+                self.assertEqual(again.stats().documents, 0)
+        finally:
+            os.close(write)
+            os.waitpid(child, 0)
+
     def test_an_error_is_raised_anew(self):
         index = self.fake(end=[1, 8])
         reply = index.send_add("a", "", "")

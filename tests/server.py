@@ -312,6 +312,18 @@ class Ends(Case):
         server.communicate()
         self.assertIn(b"! ended -9", connection.makefile("rb").read())
 
+    def test_of_a_fork_of_a_client(self):
+        self.serve()
+        with self.index() as index:
+            index.add("a", "", "")
+            child = os.fork()
+            if child == 0:
+                # As a block does that is left by `sys.exit`.
+                index.kill()
+                os._exit(0)
+            self.assertEqual(os.waitpid(child, 0)[1], 0)
+            self.assertEqual(index.stats().documents, 1)
+
     def idle(self, connection):
         """Lets the server look whether levels are to be joined, which it does when nobody has asked for a moment."""
         time.sleep(3 * IDLE_SECONDS)

@@ -40,7 +40,13 @@ class Exchange:
         self.front = bytearray()  # the front of a line whose end has not come
         self.untaken = {}  # refused replies that nobody has taken, the oldest first
         self.alone = threading.Lock()
-        self.let_go = weakref.finalize(self, let_go, link, self.out, path, os.getpid())
+        self.owner = os.getpid()
+        self.let_go = weakref.finalize(self, let_go, link, self.out, path, self.owner)
+        _LINKS.add(link)
+
+    def is_mine(self):
+        """Whether this process has opened the index: one that was forked has a copy, with which nothing can be asked."""
+        return os.getpid() == self.owner
 
     def under_way(self):
         """How many lines were sent that have no reply yet: 64 at most."""
@@ -86,6 +92,9 @@ class Exchange:
         Raises its `Ended` where nothing raised it yet, or the first `Refused` of a line that was sent and whose reply nobody
         has taken.
         """
+        if not self.is_mine():
+            # The program is that of another process.
+            return
         until = None if seconds is None else time.monotonic() + seconds
         if self.settle(seconds) and self.end is None:
             self.link.close_input()
@@ -104,7 +113,7 @@ class Exchange:
     def kill(self):
         """Ends the program at once. Of the lines without a reply the first one may be done, and no other."""
         self.told = True
-        if self.end is None:
+        if self.end is None and self.is_mine():
             self._end_by_force("")
 
     def _end_by_force(self, why):
@@ -118,7 +127,8 @@ class Exchange:
 
     def break_off(self):
         """Ends the program from a signal handler: the calls that wait for it then go on as where it was killed."""
-        self.link.kill()
+        if self.is_mine():
+            self.link.kill()
 
     def turn_until(self, is_done, seconds=None):
         """Takes turns until this is so, or for so many seconds, one at least; tells whether it is so."""
@@ -136,6 +146,8 @@ class Exchange:
         first, and moves nothing yet where that can wait for others. A call that is interrupted in here may have lost a piece of
         a reply: nothing is read any more then, and the program is ended.
         """
+        if not self.is_mine():
+            raise RuntimeError(f"{self.path}: opened by another process, of which this is a fork: open the index anew")
         if not self.alone.acquire(blocking=False):
             raise RuntimeError(f"{self.path}: another thread, or what a signal has interrupted, waits for the program")
         try:
@@ -239,6 +251,20 @@ class Exchange:
         for replies in (self.pending, self.fresh):
             while replies:
                 replies.popleft().settle(self.end)
+
+
+# The links of this process. A fork has copies of their handles, which would keep a program at work whose client has closed it.
+_LINKS: weakref.WeakSet = weakref.WeakSet()
+
+
+def _leave_links():
+    """Lets a process that was forked go of the programs and servers of the one before."""
+    for link in list(_LINKS):
+        link.leave()
+    _LINKS.clear()
+
+
+os.register_at_fork(after_in_child=_leave_links)
 
 
 def _left(until):

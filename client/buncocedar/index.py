@@ -36,8 +36,9 @@ class Index(Commands):
     Where a server of the index listens (`server.py`), the index is opened by it, and shared with its other clients; with
     `server=False` it is not.
 
-    One thread at a time: a call while another one waits for the program raises `RuntimeError`. Raises `Ended` where the
-    index does not open. An index that is dropped without `close` lets its program end, and so does the end of Python.
+    One thread at a time: a call while another one waits for the program raises `RuntimeError`. So does each call in a process that
+    was forked, where `close` and `kill` do nothing: open the index anew there. Raises `Ended` where the index does not open. An
+    index that is dropped without `close` lets its program end, and so does the end of Python.
     """
 
     path: str

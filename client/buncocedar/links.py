@@ -134,6 +134,12 @@ class Program:
 
     give_up_input = close_input
 
+    def leave(self):
+        """Lets go of the pipes in a process that was forked: the program is another one's."""
+        for pipe in (self.process.stdin, self.process.stdout, self.process.stderr):
+            pipe.close()
+        self.process.returncode = 0
+
     def kill(self):
         kill(self.process)
 
@@ -181,6 +187,10 @@ class Service:
 
     def give_up_input(self):
         self.input = None
+
+    def leave(self):
+        """Lets go of the connection in a process that was forked: it is another one's."""
+        self.connection.close()
 
     def kill(self):
         self.status = -signal.SIGKILL, "the connection to the server was ended"
