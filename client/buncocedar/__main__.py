@@ -2,7 +2,7 @@
 
 import sys
 
-from .tools.main import main
-
 if __name__ == "__main__":
+    from .tools.main import main
+
     sys.exit(main())

@@ -12,6 +12,8 @@ from typing import Optional
 from .texts import NUMBER, marked
 
 SCANT_ROOM = 4_194_304  # bytes: with fewer free a disk counts as full
+ROOTS = 8_192  # bytes at the front of an index, where its roots stand
+ROOT_FIELDS = 24  # bytes of the first root that the making of an index writes, behind a first byte of zero that it changes last
 
 
 class Error(Exception):
@@ -219,11 +221,17 @@ class NoIndex(Ended):
     advice = "the file is no index; if making it was stopped, delete it and make it again"
     stored = ""
 
+    def hint(self, path):
+        return "the file holds something else: is this the right path?" if path and holds_something_else(path) else self.advice
+
 
 class NoFile(NoIndex):
     """There is no file where an index was to be opened; no program was started."""
 
-    advice = "make it first, by create=True or by the program's word init"
+    advice = "make it first, by create=True, by `bunco init`, or by an import"
+
+    def hint(self, path):
+        return self.advice
 
     def __init__(self, path):
         super().__init__(7, "no index: there is no such file", path)
@@ -282,6 +290,21 @@ def end_of(status, line, path=None, opened=True):
         return ServerEnded(status, line, path, opened)
     known = line or status == 5
     return (ENDS.get(status, Ended) if known else Ended)(status, line, path, opened)
+
+
+def holds_something_else(path):
+    """Whether a plain file has, where an index has its roots, what a making of an index that was stopped does not leave."""
+    try:
+        handle = os.open(path, os.O_RDONLY | os.O_NONBLOCK)
+    except OSError:
+        return False
+    try:
+        head = os.pread(handle, ROOTS, 0) if stat.S_ISREG(os.fstat(handle).st_mode) else b""
+        return any(head[:1]) or any(head[ROOT_FIELDS:])
+    except OSError:
+        return False
+    finally:
+        os.close(handle)
 
 
 def disk_cause(path: str) -> Optional[str]:

@@ -3,8 +3,10 @@
 import contextlib
 import os
 import shlex
+import socket
 import subprocess
 import sys
+from urllib.parse import quote
 
 MARK, NAME, PLACE, PLAIN = "\x1b[1;31m", "\x1b[35m", "\x1b[32m", "\x1b[0m"
 
@@ -14,6 +16,13 @@ def printable(text):
     return "".join(
         character if character.isprintable() or character == "\n" else "    " if character == "\t" else "\ufffd" for character in text
     )
+
+
+def why(error):
+    """An error in words, without the number that the system gives it."""
+    if isinstance(error, OSError) and error.strerror:
+        return f"{error.filename}: {error.strerror}" if error.filename else error.strerror
+    return str(error)
 
 
 def write(text):
@@ -96,13 +105,24 @@ def waited(process):
 AT_A_LINE = ("emacs", "emacsclient", "gvim", "joe", "kak", "mg", "micro", "nano", "nvim", "pico", "vi", "view", "vim")
 
 
+# Editors that begin at the line which stands behind the file's name, as `FILE:N`; of some a word before it says that.
+BEHIND_THE_NAME = {"code": ["--goto"], "codium": ["--goto"], "hx": [], "subl": [], "zed": []}
+
+
 def editor_words(path, line):
-    """The command that opens a file in the user's editor, at a line where the editor is one that takes such."""
+    """The command that opens a file in the user's editor, at a line where it is known how that editor takes one."""
     words = shlex.split(os.environ.get("VISUAL") or os.environ.get("EDITOR") or "vi")
     name = os.path.basename(words[0]).partition(".")[0] if words else ""
+    if name in BEHIND_THE_NAME:
+        return [*words, *BEHIND_THE_NAME[name], f"{path}:{line}"]
     return [*words, *([f"+{line}"] if name in AT_A_LINE else []), path]
 
 
 def edited(path, line=1):
     """Opens a file in the user's editor until that ends, and answers its status. Raises `OSError` where it can't be started."""
     return waited(subprocess.Popen(editor_words(path, line)))
+
+
+def linked(text, path):
+    """The text as a link to a file, by the sequence OSC 8 that terminals know."""
+    return f"\x1b]8;;file://{socket.gethostname()}{quote(os.fsencode(os.path.abspath(path)))}\x1b\\{text}\x1b]8;;\x1b\\"

@@ -132,9 +132,9 @@ def main(arguments: Optional[List[str]] = None) -> int:
     """The command, from its words to its exit status: 3 where its output could not be written, and 130 behind an interrupt."""
     open_closed_streams()
     try:
-        status = run(sys.argv[1:] if arguments is None else arguments)
-        sys.stdout.flush()
-        return status
+        # While the command was loaded an interrupt ended it without a word; from here on it ends as it says.
+        signal.signal(signal.SIGINT, signal.default_int_handler)
+        return flushed(run(sys.argv[1:] if arguments is None else arguments))
     except KeyboardInterrupt:
         return 128 + signal.SIGINT
     except BrokenPipeError:
@@ -145,3 +145,16 @@ def main(arguments: Optional[List[str]] = None) -> int:
         discard_output()
         print(f"bunco: {error.filename + ': ' if error.filename else ''}{error.strerror or error}", file=sys.stderr)
         return STOPPED
+    finally:
+        signal.signal(signal.SIGINT, signal.SIG_DFL)
+
+
+def flushed(status: int) -> int:
+    """The exit status of a command that ended with this one, once its output is written; what it has told is not told again."""
+    try:
+        sys.stdout.flush()
+    except OSError:
+        if status != STOPPED:
+            raise
+        discard_output()
+    return status

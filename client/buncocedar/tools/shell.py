@@ -11,7 +11,7 @@ import sys
 
 from ..errors import Error, QueryFault, Refused
 from ..index import Index
-from ..terminal import printable, quiet_end
+from ..terminal import printable, quiet_end, why
 from .prompt import Prompt
 
 HELP = """add NAME            stores a document: title and body are asked for
@@ -129,6 +129,6 @@ def main(arguments=None):
     except KeyboardInterrupt:
         return 130
     except (Error, OSError) as error:
-        print(f"shell: {error}", file=sys.stderr)
+        print(f"shell: {why(error)}", file=sys.stderr)
         return STOPPED
     return 0
