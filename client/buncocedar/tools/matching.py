@@ -1,5 +1,7 @@
 """What of a text answers a query: the words and phrases of its plan, and where they stand."""
 
+import heapq
+import itertools
 import re
 from typing import NamedTuple
 
@@ -51,10 +53,10 @@ def joined_terms(variables, bounds):
     return phrases
 
 
-def pattern_of(phrase):
-    """Whether the phrase is looked for in the folded text, and its pattern."""
+def pattern_of(phrase, between=r"[^\w\n]+"):
+    """Whether the phrase is looked for in the folded text, and its pattern; by default its words stand in one line."""
     words = [re.escape(term.text) + (r"\w*" if term.open_end else "") for term in phrase]
-    return all(term.folded for term in phrase), re.compile(r"(?<!\w)" + r"\W+".join(words) + r"(?!\w)")
+    return all(term.folded for term in phrase), re.compile(r"(?<!\w)" + between.join(words) + r"(?!\w)")
 
 
 def folded(text):
@@ -83,13 +85,47 @@ def spans_of(text, patterns):
     return apart, met
 
 
+def lines_with(text, pattern):
+    """The numbers from 0 of the lines in which a pattern stands, as they rise, each once."""
+    at = number = 0
+    while match := pattern.search(text, at):
+        number += text.count("\n", at, match.start())
+        yield number
+        end = text.find("\n", match.end())
+        if end < 0:
+            return
+        at, number = end + 1, number + 1
+
+
+def lines_with_any(text, fold, patterns):
+    """The numbers from 0 of the lines in which one of the patterns stands, as they rise."""
+    lines = heapq.merge(*(lines_with(fold if folds else text, pattern) for folds, pattern in patterns))
+    return [number for number, _ in itertools.groupby(lines)]
+
+
+def fullest_line(text, fold, patterns):
+    """The number from 0 of the first line that has most of the patterns, None where none has one.
+
+    Each pattern is looked for once in the whole text, and a line without any is never looked at.
+    """
+    lines = heapq.merge(*(lines_with(fold if folds else text, pattern) for folds, pattern in patterns))
+    best, at = 0, None
+    for number, met in itertools.groupby(lines):
+        count = sum(1 for _ in met)
+        if count > best:
+            best, at = count, number
+        if best == len(patterns):
+            break
+    return at
+
+
 class Wanted:
     """What the answers to a query are looked through for."""
 
     def __init__(self, plan):
         phrases = wanted_phrases(plan)
         self.phrases = [pattern_of(phrase) for phrase in phrases]
-        self.long = [pattern_of(phrase) for phrase in phrases if len(phrase) > 1]
+        self.long = [pattern_of(phrase, r"\W+") for phrase in phrases if len(phrase) > 1]
         self.words = [pattern_of([term]) for phrase in phrases for term in phrase]
 
     def spans(self, text):
@@ -97,18 +133,20 @@ class Wanted:
 
     def best_line(self, lines):
         """The number from 0 of the first line that has most of the phrases, or of their words; None where none has one."""
-        best, at = 0, None
-        for number, line in enumerate(lines):
-            score = 1000 * spans_of(line, self.phrases)[1] or spans_of(line, self.words)[1]
-            if score > best:
-                best, at = score, number
-        broken = self.broken_phrase(lines) if best < 1000 else None
-        return at if broken is None else broken
-
-    def broken_phrase(self, lines):
-        """The line in which the first phrase begins that goes on in the next."""
         text = "\n".join(lines)
         fold = text.casefold()
+        at = fullest_line(text, fold, self.phrases)
+        if at is None:
+            at = self.broken_phrase(text, fold)
+        return fullest_line(text, fold, self.words) if at is None else at
+
+    def all_lines(self, text):
+        """The numbers from 0 of the lines that have one of the phrases, or where none has, of their words."""
+        fold = text.casefold()
+        return lines_with_any(text, fold, self.phrases) or lines_with_any(text, fold, self.words)
+
+    def broken_phrase(self, text, fold):
+        """The line in which the first phrase begins that goes on in the next."""
         for folds, pattern in self.long:
             searched = fold if folds else text
             match = pattern.search(searched)
