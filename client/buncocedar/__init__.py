@@ -49,6 +49,7 @@ from .lines import LINE_LIMIT, add_line, value_range
 from .links import default_program, server_path
 from .replies import MOST_BEST, Added, Dumped, Page, Reply, Scored, Skipped, Stats, Top
 from .texts import marked, name_ok
+from .wording import phrase, words
 
 __version__ = "0.2.0"
 __all__ = [
@@ -98,6 +99,8 @@ __all__ = [
     "holder",
     "marked",
     "name_ok",
+    "phrase",
     "server_path",
     "value_range",
+    "words",
 ]
