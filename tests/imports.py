@@ -9,6 +9,7 @@ Without --program the tests of the real program are left out, and that is said.
 import base64
 import collections
 import contextlib
+import datetime
 import email.message
 import glob
 import gzip
@@ -39,7 +40,8 @@ from buncocedar.imports.interrupts import Interrupts
 from buncocedar.imports.log import Log
 from buncocedar.imports.parts import OVERLAP, parts_of, spaced
 from buncocedar.imports.stamps import name_of
-from buncocedar.tools import find, matching, prompt
+from buncocedar.tools import matching, prompt
+from buncocedar.tools import rows as answer_rows
 
 FAKE = fake.installed()
 PROGRAM = None
@@ -1299,7 +1301,7 @@ class Find(Case):
         self.write("notes/long", "quick " + "word " * (LINE_LIMIT // 5) + "quick " * 9)
         self.run_script("folder", self.path, self.at("notes"))
         for words, shown in [
-            (("--top", "9"), "5 long 9\n1 a.txt 2\n2 b.txt 1\n3 fox.txt 1\nfound 4\n"),
+            (("--top", "9"), "5 long 9\n1 a.txt 2\n3 fox.txt 1\n2 b.txt 1\nfound 4\n"),
             (("--top", "2"), "5 long 9\n1 a.txt 2\n... and 2 more\nfound 4\n"),
             (("--top", "2", "--names"), "long\na.txt\n"),
             (("--newest", "--limit", "1"), "4 long\n... and 3 more\nfound 4\n"),
@@ -1315,7 +1317,7 @@ class Find(Case):
         self.assertIn("older than", self.run_script("find", self.path, "quick", "--top", "1", do={"old": True}, expect=2))
         # At a prompt this is what comes, if nothing else is said, and the program can.
         for words, do, row in [((), {}, "a.txt 2\r\n"), (("--newest",), {}, "a.txt\r\n"), ((), {"old": True}, "a.txt\r\n")]:
-            shown = self.typed(b"quick\n", b"quit\n", words=(*words, "--color", "never"), do=do)
+            shown = self.typed(b"quick\n", b"quit\n", words=(*words, "--no-about", "--color", "never"), do=do)
             self.assertIn(row, shown)
 
     def test_for_other_programs(self):
@@ -1331,8 +1333,8 @@ class Find(Case):
         self.assertEqual(self.out, "2\n")
         self.run_script("find", self.path, "zebra", "--count", expect=1)
         self.run_script("find", self.path, "quick", "--json", "--context", "--limit", "1")
-        known = {"number": 2, "name": "c.txt", "path": paths[0], "title": "c.txt", "line": 1, "text": "so quick"}
-        self.assertEqual(json.loads(self.out), known)
+        known = {"number": 2, "name": "c.txt", "kind": "folder", "path": paths[0], "title": "c.txt", "line": 1, "text": "so quick"}
+        self.assertEqual(json.loads(self.out), {**known, "date": datetime.date.today().isoformat()})
         self.run_script("find", self.path, "quick", "--show")
         self.assertEqual(self.out, "so quick\n")
         # A file that is gone, a folder that has moved, and an index whose stamps are gone.
@@ -1365,10 +1367,11 @@ class Find(Case):
         self.assertEqual([name for name in self.bodies() if name.startswith("a.txt")], [name_of("a.txt~p2"), "a.txt"])
 
     def test_backwards(self):
-        with mock.patch.object(find, "BLOCK", 7), mock.patch.object(find, "KEPT_IN_MEMORY", 20):
+        with mock.patch.object(answer_rows, "BLOCK", 7), mock.patch.object(answer_rows, "KEPT_IN_MEMORY", 20):
             for count in (0, 1, 2, 50):
-                rows = [(number, f"name{number}") for number in range(1, count + 1)]
-                self.assertEqual(list(find.backwards(iter(rows))), rows[::-1])
+                given = [(number, f"name{number}") for number in range(1, count + 1)]
+                self.assertEqual(list(answer_rows.Kept(iter(given), True)), given[::-1])
+                self.assertEqual(list(answer_rows.Kept(iter(given), False)), given)
 
     def test_mail_and_packages(self):
         archive = (
@@ -1470,7 +1473,7 @@ class Find(Case):
         for number in range(25):
             self.write(f"notes/{number:02}", "so quick \x1b]0;title\x07")
         self.run_script("folder", self.path, self.at("notes"))
-        shown = self.typed(b"quick\n", b"fault 2 Word\n", b"\x04", words=("--color", "never", "--newest"))
+        shown = self.typed(b"quick\n", b"fault 2 Word\n", b"\x04", words=("--color", "never", "--newest", "--no-about"))
         self.assertEqual(self.status, 2)
         self.assertIn("25 24\r\n24 23\r\n", shown)
         self.assertIn("6 05\r\n... and 5 more\r\nfound 25\r\n", shown)
@@ -1546,7 +1549,7 @@ class Find(Case):
         for pager, shows in (("sed s/^/paged:/", "paged:1 c.txt\r\npaged:found 1\r\n"), ("/no/such", "1 c.txt\r\nfound 1\r\n")):
             ours, theirs = pty.openpty()
             with mock.patch.dict(os.environ, {"PAGER": pager}):
-                process = self.start("find", "--color", "never", self.path, "quick", stdout=theirs)
+                process = self.start("find", "--color", "never", "--no-about", self.path, "quick", stdout=theirs)
             os.close(theirs)
             self.assertEqual(read_all(ours), shows)
             process.communicate(timeout=PATIENCE)

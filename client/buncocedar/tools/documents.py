@@ -5,11 +5,12 @@
 # written. The index is let go before the editor begins, but at the prompt, which has it as long as it runs.
 
 import contextlib
+import email.utils
 import os
 import re
 import tempfile
 
-from ..document import Unfit
+from ..document import Text, Unfit
 from ..imports import folder, mail, packages
 from ..imports.stamps import STEM_LIMIT, Records, part_of, stamps_path, stem_of
 from ..terminal import edited
@@ -50,6 +51,22 @@ class Places:
         numbers = {number: name for name, stamp in self.records().of.items() for number in stamp.numbers}
         return numbers.get(int(word), word)
 
+    def is_in_parts(self, name):
+        """Whether the document of this name is stored in parts."""
+        stamp = self.records().of.get(name)
+        return stamp is not None and len(stamp.numbers) > 1
+
+    def moment(self, name):
+        """When a document was written, in seconds since 1970, None where that is not known."""
+        found = self.found(name)
+        return None if found is None else moment_at(found)
+
+    def thread(self, name):
+        """The word that the messages of a document's thread have in their heads, empty where it has none."""
+        found = self.found(name)
+        text = text_at(found) if found is not None and found.kind == "mail" else None
+        return thread_of(text) if isinstance(text, Text) else ""
+
     def has_parts(self):
         return any(len(stamp.numbers) > 1 for stamp in self.records().of.values())
 
@@ -65,6 +82,44 @@ def text_at(found):
         return "gone"
     except (OSError, Unfit) as fault:
         return getattr(fault, "strerror", None) or str(fault)
+
+
+THREAD = re.compile(r"(?<!\S)thread:[!-~]+")
+
+
+def thread_of(text):
+    """The word that the messages of one thread have in their heads, empty where a text has none."""
+    found = THREAD.search(text.head)
+    return found[0] if found else ""
+
+
+def moment_at(found):
+    """When a document was written, in seconds since 1970: a message by its Date, a file by its time; else None."""
+    try:
+        if found.kind == "folder":
+            return os.stat(found.path).st_mtime
+        if found.kind == "mail":
+            fields, _ = mail.parted(mail.raw_at(found))
+            date = email.utils.parsedate_tz(mail.decoded(mail.value(fields, b"date"))[: mail.DATE_LIMIT])
+            return None if date is None else email.utils.mktime_tz(date)
+    except (OSError, ValueError, OverflowError, TypeError, IndexError):
+        pass
+    return None
+
+
+def head_fields(text):
+    """The fields of a text's head, each with its values."""
+    found = {}
+    for line in text.head.split("\n"):
+        field, colon, value = line.partition(": ")
+        if colon:
+            found.setdefault(field, []).append(value)
+    return found
+
+
+def day_of(fields):
+    """The day of a message, without the number by which ranges of values find it; empty where it has none."""
+    return fields.get("Date", [""])[0].partition(" ")[0]
 
 
 def shown_path(path):
@@ -87,9 +142,8 @@ def whole_lines(found, text):
 
 def about(text):
     """A line that says what a message or a package is."""
-    fields = dict(line.partition(": ")[::2] for line in reversed(text.head.split("\n")) if ": " in line)
-    day, writer = fields.get("Date", "").partition(" ")[0], fields.get("From", "")
-    front = " ".join(filter(None, (day, writer)))
+    fields = head_fields(text)
+    front = " ".join(filter(None, (day_of(fields), fields.get("From", [""])[0])))
     return ": ".join(filter(None, (front, text.title)))
 
 

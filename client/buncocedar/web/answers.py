@@ -15,7 +15,7 @@ from ..imports import mail
 from ..imports.stamps import Found, name_of
 from ..replies import MOST_BEST
 from ..tools.documents import Places, text_at
-from ..tools.find import Best, whole_documents
+from ..tools.rows import Best, whole_documents
 from ..tools.matching import Wanted
 from .questions import AnyIndex, Questions
 

@@ -1,0 +1,68 @@
+"""An index that is only asked: where it stands, or as a private copy where it may not be written.
+
+The program locks the file that it opens, and opens none that it may not write. So a file in a read-only place, or of somebody
+else, is searched by a copy without free room in a temporary folder, which goes at the end.
+"""
+
+from __future__ import annotations
+
+import contextlib
+import os
+import tempfile
+
+from ..copying import locked, write_packed
+from ..errors import InUse
+from ..fileformat import Unusable, read_root
+from ..links import connected
+from ..shards import open_index
+
+COPY = "copy.alta"
+
+
+def is_for_reading_only(path):
+    """Whether a plain file may be read and not written, for its rights or for its file system."""
+    return os.path.isfile(path) and os.access(path, os.R_OK) and not os.access(path, os.W_OK)
+
+
+class Readable:
+    """The index at a path, to be opened for questions, in a `with`; `say` is told of a copy, and of who has it open."""
+
+    def __init__(self, path, patience, say):
+        self.path = path
+        self._patience = patience
+        self._say = say
+        self._place = path
+        self._stack = contextlib.ExitStack()
+
+    def __enter__(self):
+        if is_for_reading_only(self.path) and not is_served(self.path):
+            folder = self._stack.enter_context(tempfile.TemporaryDirectory(prefix="bunco-"))
+            self._place = os.path.join(folder, COPY)
+            size = private_copy(self.path, self._place, self._patience)
+            self._say(f"{self.path} may not be written: a private copy of it is searched, of {size:,} bytes")
+        return self
+
+    def __exit__(self, *what):
+        self._stack.close()
+
+    def opened(self):
+        """The index: until it is closed others wait for it."""
+        return open_index(self._place, patience=self._patience, on_wait=self._say)
+
+
+def is_served(path):
+    """Whether a server of the index listens to this user."""
+    link = connected(path)
+    if link is not None:
+        link.leave()
+    return link is not None
+
+
+def private_copy(path, place, patience):
+    """Copies an index that nobody has open to a new place, without its free room, and answers how many bytes that has."""
+    try:
+        with locked(path, patience) as file, open(place, "wb") as target:
+            write_packed(file, read_root(file), target)
+            return target.tell()
+    except Unusable as fault:
+        raise InUse(str(fault) if path in str(fault) else f"{path}: {fault}") from None

@@ -1,0 +1,354 @@
+#!/usr/bin/env python3
+"""Tests of `bunco find`: what it answers, what it says beside, and how it ends.
+
+usage: tests/finding.py [--program PATH]
+
+Without --program the tests of the real program are left out, and that is said.
+"""
+
+import json
+import os
+import pty
+import random
+import signal
+import subprocess
+import sys
+import tempfile
+import time
+import unittest
+from unittest import mock
+
+# It lets the others find the client of the checkout.
+from support import BUNCO, PATIENCE, run_tests, until  # isort: skip
+
+import buncocedar
+import fake
+from buncocedar import Index, InUse
+from buncocedar.imports.stamps import Stamp, Stamps, part_name, stamps_path
+from buncocedar.tools import hints, reading
+
+FAKE = fake.installed()
+PROGRAM = None
+
+
+def read(path):
+    with open(path, "rb") as file:
+        return file.read()
+
+
+class Case(unittest.TestCase):
+    program = FAKE
+
+    def setUp(self):
+        folder = tempfile.TemporaryDirectory()
+        self.addCleanup(folder.cleanup)
+        self.folder = folder.name
+        self.path = self.at("x.alta")
+
+    def at(self, name):
+        return os.path.join(self.folder, name)
+
+    def write(self, name, content):
+        path = self.at(name)
+        os.makedirs(os.path.dirname(path), exist_ok=True)
+        with open(path, "wb") as file:
+            file.write(content if isinstance(content, bytes) else content.encode())
+        return path
+
+    def start(self, command, *words, variables=None, **options):
+        environment = {**os.environ, "BUNCOCEDAR_PROGRAM": self.program, "BUNCOCEDAR_INDEX": "", **(variables or {})}
+        options = {"stdin": subprocess.DEVNULL, "stdout": subprocess.PIPE, "stderr": subprocess.PIPE, **options}
+        return subprocess.Popen([sys.executable, "-S", BUNCO, command, *words], env=environment, text=True, **options)
+
+    def run_bunco(self, command, *words, expect=0, **options):
+        """What a command prints, where it ends with this status; what it says beside is in `said`."""
+        process = self.start(command, *words, **options)
+        out, self.said = process.communicate(timeout=PATIENCE)
+        self.assertEqual(process.returncode, expect, self.said)
+        return out
+
+    def find(self, *words, **options):
+        return self.run_bunco("find", self.path, *words, **options)
+
+    def index(self):
+        return Index(self.path, create=True, program=self.program, patience=PATIENCE)
+
+
+class Ends(Case):
+    def setUp(self):
+        super().setUp()
+        with self.index() as index:
+            index.add("a", "", "red fox")
+
+    def test_an_interrupt_at_any_moment(self):
+        chance = random.Random(1)
+        for _ in range(6):
+            process = self.start("find", self.path, "fox")
+            time.sleep(chance.uniform(0, 0.6))
+            process.send_signal(signal.SIGINT)
+            said = process.communicate(timeout=PATIENCE)[1]
+            # Before the script begins the interrupt is Python's own.
+            self.assertNotIn("buncocedar", said)
+            self.assertIn(process.returncode, (0, 130, -signal.SIGINT, 1), said)
+
+    def test_outputs_that_are_closed(self):
+        for words in (["find", self.path, "fox"], ["shell", self.path], ["dump", self.path], ["--help"]):
+            for closed, why in ((">&-", "Bad file descriptor"), (">/dev/full", "No space left on device")):
+                command = [sys.executable, BUNCO, *words]
+                done = subprocess.run(
+                    ["sh", "-c", f'"$@" {closed}', "sh", *command],
+                    env={**os.environ, "BUNCOCEDAR_PROGRAM": self.program},
+                    input="stats\n",
+                    capture_output=True,
+                    text=True,
+                    timeout=PATIENCE,
+                )
+                self.assertEqual((done.returncode, done.stderr.count(why)), (3, 1), (words, done.stderr))
+                self.assertNotIn("Traceback", done.stderr)
+
+    def test_huge_limits(self):
+        for words in (["--limit", "9" * 30], ["--oldest", "--limit", "9" * 30]):
+            self.assertIn("found 1\n", self.find("fox", *words))
+
+
+class Parts(Case):
+    def test_what_stands_between_two_parts(self):
+        stamps = Stamps(stamps_path(self.path))
+        with self.index() as index:
+            numbers = []
+            for part in (1, 2, 3):
+                numbers.append(index.add(part_name("long", part), "", "fox"))
+                index.add(f"other{part}", "", "fox")
+            stamps.put({"long": Stamp(tuple(map(int, numbers)), "0" * 32, "0" * 8)})
+        stamps.close()
+        self.assertEqual(self.find("fox"), "6 other3\n4 other2\n2 other1\n1 long\nfound 4\n")
+        self.assertEqual(self.find("fox", "--count"), "4\n")
+        self.assertEqual(self.find("fox", "--limit", "3", "--oldest"), "1 long\n2 other1\n4 other2\n... and 1 more\nfound 4\n")
+
+
+class Hints(Case):
+    def test_operators_of_other_programs(self):
+        for query, hint in [
+            ("fox or dog", "or is a word here; OR is the operator"),
+            ("fox and not dog", "not is a word here; NOT is the operator"),
+            ("not fox", "not is a word here; NOT is the operator"),
+            ("fox -dog", "-dog is the word dog here; NOT dog leaves it out"),
+            ("+fox dog", "+fox is the word fox here"),
+            ("fox && dog", "&& is no operator here; AND is"),
+            ("!fox", "!fox is the word fox here; NOT fox leaves it out"),
+        ]:
+            self.assertIn(hint, "\n".join(hints.operator_hints(query)))
+        for query in ("fox OR dog", "or", "this or", '"fox or dog"', "e-mail", "a NEAR/3 b", '"-dog"', "- dog"):
+            self.assertEqual(list(hints.operator_hints(query)), [])
+
+    def test_fields_of_other_programs(self):
+        nothing, asked = (lambda query: 0), []
+        said = list(hints.field_hints('from:ann subject:x title:y name:z value:1..2 "to:bob" from:cid', nothing))
+        self.assertEqual(len(said), 2)
+        self.assertIn("from: is no field of a query", said[0])
+        self.assertIn("here it is title:", said[1])
+        self.assertEqual(list(hints.field_hints("from:ann", lambda query: asked.append(query) or 3)), [])
+        self.assertEqual(asked, ['"from:ann"'])
+
+    def test_one_spelling(self):
+        counts = {'"gcc"': 5, '"GCC"': 2, '"OK"': 1, '"ok"': 1}
+        said = list(hints.spelling_hints('GCC AND "OK" OR gcc', counts.__getitem__))
+        self.assertEqual(said, ["GCC finds only this spelling; gcc finds each one, in 5 documents"])
+
+    def test_they_are_said_beside(self):
+        with self.index() as index:
+            index.add("a", "", "fox or dog")
+        self.assertEqual(self.find("fox", "or", "dog"), "1 a\nfound 1\n")
+        self.assertEqual(self.said, "find: or is a word here; OR is the operator\n")
+
+
+MAIL = "".join(
+    f"From a Mon Jan  1 00:00:00 2024\nMessage-ID: <{name}@x>\nFrom: {writer} <{name}@x>\n{date}Subject: The {name}\n\nquick {name}\n\n"
+    for name, writer, date in [
+        ("spring", "Ann Lee", "Date: 1 Mar 2024 10:00:00 +0000\n"),
+        ("old", "thread:ab", "Date: 1 Jan 1999 10:00:00 +0000\n"),
+        ("none", "Bob", ""),
+        ("middle", "thread:ab", "Date: 1 Jun 2010 10:00:00 +0000\n"),
+    ]
+)
+
+
+class Orders(Case):
+    def setUp(self):
+        super().setUp()
+        self.run_bunco("mail", self.path, self.write("a.mbox", MAIL))
+
+    def names(self, *words):
+        return [name.partition("@")[0] for name in self.find(*words, "--names").split()]
+
+    def test_by_date(self):
+        self.assertEqual(self.names("quick"), ["middle", "none", "old", "spring"])
+        self.assertEqual(self.names("quick", "--by-date"), ["spring", "middle", "old", "none"])
+        self.assertEqual(self.names("quick", "--by-date", "--oldest"), ["old", "middle", "spring", "none"])
+        self.assertEqual(self.names("quick", "--by-date", "--limit", "2"), ["spring", "middle"])
+        self.assertIn("... and 3 more\nfound 4\n", self.find("quick", "--by-date", "--limit", "1"))
+
+    def test_the_newest_of_one_score_first(self):
+        self.assertEqual(self.names("quick", "--top", "2"), ["middle", "none"])
+
+    def test_threads(self):
+        # An importer notes the thread in the head of a message: here it is in the writer's name.
+        self.assertEqual(self.names("old", "--thread"), ["old", "middle"])
+        self.assertEqual(self.names("quick", "--thread"), ["old", "middle", "none", "spring"])
+        self.assertEqual(self.names("quick", "--thread", "--limit", "1"), ["old", "middle"])
+
+    def test_rows_for_readers(self):
+        rows = self.find("quick", "--about").split("\n")
+        self.assertEqual(rows[3], f"1 2024-03-01  {'Ann Lee':20}  The spring")
+        self.assertEqual(rows[1], f"3 {'':10}  {'Bob':20}  The none")
+        self.assertEqual(self.find("spring", "--no-about"), "1 spring@x\nfound 1\n")
+
+    def test_all_that_is_known(self):
+        known = json.loads(self.find("spring", "--json"))
+        wanted = {"name": "spring@x", "kind": "mail", "title": "The spring", "from": ["Ann Lee <spring@x>"], "date": "2024-03-01"}
+        self.assertEqual({key: known[key] for key in wanted}, wanted)
+        self.assertEqual(known["path"], os.path.realpath(self.at("a.mbox")))
+
+    def test_lines_of_files(self):
+        self.write("notes/a.txt", "a Quick fox\nnothing\nquick\n")
+        self.run_bunco("folder", self.path, self.at("notes"))
+        path = os.path.realpath(self.at("notes/a.txt"))
+        self.assertEqual(self.find("quick", "--grep", "--limit", "2"), f"{path}:1:a Quick fox\n{path}:3:quick\n")
+        self.assertIn("middle@x: it is no file of its own", self.said)
+
+
+class NobodyWaits(Case):
+    def setUp(self):
+        super().setUp()
+        with self.index() as index:
+            index.add("a", "", "red fox")
+
+    def test_for_who_reads_in_a_pager(self):
+        ours, theirs = pty.openpty()
+        pager = self.write("pager", f"#!/bin/sh\ntouch {self.at('mark')}\nwhile [ ! -e {self.at('go')} ]; do sleep 0.1; done\ncat\n")
+        os.chmod(pager, 0o755)
+        process = self.start("find", self.path, "fox", "--color", "never", variables={"PAGER": pager}, stdout=theirs)
+        os.close(theirs)
+        until(lambda: os.path.exists(self.at("mark")))
+        with self.index() as index:
+            index.add("b", "", "fox")
+        self.write("go", "")
+        shown = shown_until(ours, "found 1")
+        process.communicate(timeout=PATIENCE)
+        self.assertIn("1 a\r\n", shown)
+
+    def test_for_who_thinks_at_a_prompt(self):
+        ours, theirs = pty.openpty()
+        variables = {"BUNCOCEDAR_HISTORY": "", "TERM": "dumb"}
+        process = self.start("find", self.path, "--color", "never", variables=variables, stdin=theirs, stdout=theirs)
+        os.close(theirs)
+        for line, answer in ((b"fox\n", "found 1"), (b"top 1 fox\n", "found 2")):
+            shown_until(ours, "find> ")
+            with self.index() as index:
+                self.assertEqual(index.stats().documents, index.count("fox"))
+            os.write(ours, line)
+            self.assertIn("1 a", shown_until(ours, answer))
+            with self.index() as index:
+                index.add("b", "", "fox")
+        os.write(ours, b"quit\n")
+        process.communicate(timeout=PATIENCE)
+        os.close(ours)
+
+
+def shown_until(terminal, text):
+    """What a terminal shows up to this text."""
+    shown = ""
+    while text not in shown:
+        shown += os.read(terminal, 4096).decode()
+    return shown
+
+
+class Words(Case):
+    def test_the_index_that_a_variable_names(self):
+        with self.index() as index:
+            index.add("a", "", "red fox")
+        usual = {"BUNCOCEDAR_INDEX": self.path}
+        self.assertEqual(self.run_bunco("find", "red", "fox", "--names", variables=usual), "a\n")
+        self.assertEqual(self.run_bunco("find", self.path, "fox", "--names", variables=usual), "a\n")
+        self.run_bunco("find", "red", "fox", expect=3)
+        self.run_bunco("find", expect=2)
+        self.assertIn("BUNCOCEDAR_INDEX", self.said)
+
+
+class Typed(unittest.TestCase):
+    texts = (
+        'he said "hello',
+        "fox OR -dog NOT (",
+        "name:x title:",
+        "caf\u00e9 STRASSE stra\u00dfe",
+        "red-fox obj.method",
+        "\u65e5\u672c\u8a9e",
+        " ".join(f"w{number}" for number in range(100)),
+        "x" * 200 + " fox",
+        "fox * ??? \U0001f98a",
+        "a\tb\nc\u2028d",
+        "\u0e01" * 70 + " fox",
+    )
+
+    def test_words(self):
+        self.assertEqual(buncocedar.words("Red-Fox OR -dog"), '"red-fox" "or" "-dog"')
+        self.assertEqual(buncocedar.phrase(' he said "Hello'), '"he said hello"')
+        for text in ("", "???", "*", "\U0001f98a", '"', "x" * 129):
+            for call in (buncocedar.words, buncocedar.phrase):
+                self.assertRaises(ValueError, call, text)
+        with self.assertRaises(TypeError):
+            buncocedar.words(b"fox")
+
+    def test_what_people_type_is_no_fault(self):
+        if PROGRAM is None:
+            self.skipTest("no program")
+        with tempfile.TemporaryDirectory() as folder, Index(os.path.join(folder, "x.alta"), True, PROGRAM) as index:
+            for number, text in enumerate(self.texts):
+                index.add(f"n{number}", "", text)
+                for call in (buncocedar.words, buncocedar.phrase):
+                    self.assertIn((number + 1, f"n{number}"), list(index.search(call(text))), (call, text))
+
+
+class RealProgram(Case):
+    def setUp(self):
+        if PROGRAM is None:
+            self.skipTest("no program")
+        self.program = PROGRAM
+        super().setUp()
+
+    def test_a_file_that_may_not_be_written(self):
+        with self.index() as index:
+            index.add("a", "", "red fox")
+            index.flush()
+            index.add("b", "", "brown fox")
+        before, said = read(self.path), []
+        with mock.patch.object(reading, "is_for_reading_only", lambda path: True):
+            with reading.Readable(self.path, 0, said.append) as source, mock.patch.dict(os.environ, BUNCOCEDAR_PROGRAM=PROGRAM):
+                with source.opened() as index, self.index():
+                    self.assertEqual(list(index.search("fox")), [(1, "a"), (2, "b")])
+                # Where somebody has it open, it can't be copied as it stands.
+                with self.index(), self.assertRaises(InUse):
+                    reading.Readable(self.path, 0, said.append).__enter__()
+        self.assertEqual(read(self.path), before)
+        self.assertIn("may not be written: a private copy of it is searched", said[0])
+
+    def test_a_file_that_is_something_else(self):
+        for content, advice in [
+            (b"From a Mon Jan  1 00:00:00 2024\n\nfox\n", "is this the right path?"),
+            (b"\0" * 9_000, "delete it and make it again"),
+            (b"\0\2" + b"\0" * 9_000, "delete it and make it again"),
+            (b"\0" * 4_096 + b"text", "is this the right path?"),
+        ]:
+            self.write("x.alta", content)
+            self.find("fox", expect=3)
+            self.assertIn(advice, self.said)
+            self.assertEqual("delete" in self.said, "delete" in advice)
+
+
+def take_program(path):
+    global PROGRAM
+    PROGRAM = path
+
+
+if __name__ == "__main__":
+    run_tests("finding", take_program)
