@@ -11,6 +11,7 @@ program has; `send_add`, `send_delete` and `add_all` keep many lines under way a
 and its standard library.
 """
 
+from .asynchronous import AsyncCursor, AsyncIndex
 from .cursors import Cursor
 from .errors import (
     BadLine,
@@ -54,6 +55,8 @@ from .wording import phrase, words
 __version__ = "0.2.0"
 __all__ = [
     "Added",
+    "AsyncCursor",
+    "AsyncIndex",
     "BadLine",
     "BadName",
     "Closed",

@@ -3,6 +3,7 @@
 from __future__ import annotations
 
 import contextlib
+import logging
 import os
 import re
 import select
@@ -11,11 +12,11 @@ import signal
 import socket
 import stat
 import subprocess
-import sys
 import sysconfig
 import time
 import warnings
 
+LOG = logging.getLogger("buncocedar")  # what a program says that is no reply and no end; without a handler it goes to standard error
 SECONDS_TO_END = 5  # that a program has to end, once it can read no more lines
 
 
@@ -52,8 +53,8 @@ def default_program() -> str:
 class Said:
     """What the program says on its standard error.
 
-    Its status line is kept, with the line behind it that says why a call of the system failed. All else is handed on, as that the
-    program is built.
+    Its status line is kept, with the line behind it that says why a call of the system failed. All else goes to the log
+    `buncocedar`, as that the program is built.
     """
 
     status_line = re.compile(
@@ -89,7 +90,7 @@ class Said:
         elif self.line and line.startswith("alta: "):
             self.line += line[len("alta") :]
         else:
-            print(line, file=sys.stderr)
+            LOG.warning("%s", line)
 
 
 def started(program, path, word, **options):
