@@ -6,6 +6,7 @@ usage: tests/server.py [--program PATH]
 Without --program the tests of the real program are left out, and that is said.
 """
 
+import asyncio
 import contextlib
 import json
 import os
@@ -26,7 +27,7 @@ from support import BUNCO, PATIENCE, run_tests, until  # isort: skip
 
 import buncocedar
 import fake
-from buncocedar import Index
+from buncocedar import AsyncIndex, Index
 from buncocedar.beside import give_rights
 from buncocedar.fileformat import HEAD, level_count
 from buncocedar.server import IDLE_SECONDS, LEVELS_KEPT, LINES_AHEAD, Server, Stopped, batches
@@ -227,6 +228,19 @@ class Lines(Case):
         self.assertEqual(replies[100:103], [b"found 34", b"replaced 1 by 68", b"cursor 1"])
         self.assertEqual(replies[302:], [b"3 n4", b"5 n7", b"more", b"documents 101 words 101 next 202", b""])
         self.assertTrue(all(reply.startswith((b"added", b"deleted")) for reply in replies[:100] + replies[103:302]))
+
+    def test_copies_that_are_none(self):
+        # The file of this program is no index, and a copy goes into a file that comes with the line.
+        self.serve()
+        connection = self.raw()
+        connection.sendall(b"copy\ncopy x\nfigures\n")
+        lines = connection.makefile("rb")
+        replies = [lines.readline() for _ in range(3)]
+        self.assertEqual(replies, [b"! no file\n", b"! unknown command\n", b"figures clients 1 waiting 0 cursors 0\n"])
+        with open(os.path.join(self.folder, "copy"), "wb") as file:
+            socket.send_fds(connection, [b"copy\nstats\n"], [file.fileno()])
+        connection.shutdown(socket.SHUT_WR)
+        self.assertEqual(lines.read(), b"! copy it is no index\ndocuments 0 words 0 next 1\n")
 
     def test_refusals_of_the_program(self):
         self.serve(say=[2, "! no numbers left"])
@@ -440,6 +454,72 @@ class Ends(Case):
             Index(self.path, program=self.program, patience=0, server=False)
 
 
+class Tasks(Case):
+    """An index from asyncio."""
+
+    def run_tasks(self, work):
+        async def run():
+            async with await AsyncIndex.connect(self.path) as index:
+                return await asyncio.wait_for(work(index), PATIENCE)
+
+        return asyncio.run(run())
+
+    def test_many_at_once(self):
+        self.serve()
+
+        async def work(index):
+            added = await asyncio.gather(*(index.add(f"n{number}", "", f"fox {number}") for number in range(200)))
+            self.assertEqual(sorted(added), list(range(1, 201)))
+            rows, count, best, *others = await asyncio.gather(
+                index.search("fox"), index.count("fox"), index.top("fox", 2), *(index.count(str(number)) for number in range(200))
+            )
+            self.assertEqual((len(rows), count, len(best.answers), others), (200, 200, 2, [1] * 200))
+            cursor = await index.cursor("fox")
+            page = await cursor.page(3)
+            self.assertEqual((len(page.rows), page.more), (3, True))
+            await cursor.close()
+            with self.assertRaises(buncocedar.NoSuchCursor):
+                await cursor.page(1)
+            with self.assertRaises(buncocedar.QueryFault) as raised:
+                await index.search("fault 3 Paren")
+            self.assertEqual(raised.exception.place, 3)
+            with self.assertRaises(buncocedar.NoSuchDocument):
+                await index.delete("none")
+            self.assertIn("found D", await index.explain("fox"))
+            self.assertEqual(len(await index.dump()), 200)
+            await index.flush()
+            return await index.stats()
+
+        self.assertEqual(self.run_tasks(work).documents, 200)
+
+    def test_a_task_that_waits_no_longer(self):
+        self.serve()
+
+        async def work(index):
+            task = asyncio.ensure_future(index.add("a", "", "fox"))
+            await asyncio.sleep(0)
+            task.cancel()
+            return await index.count("fox")
+
+        self.assertEqual(self.run_tasks(work), 1)
+
+    def test_the_end_of_the_server(self):
+        server = self.serve(silent=1)
+
+        async def work(index):
+            task = asyncio.ensure_future(index.count("fox"))
+            await asyncio.sleep(0.2)
+            server.kill()
+            with self.assertRaises(buncocedar.ServerEnded):
+                await task
+            with self.assertRaises(buncocedar.ServerEnded):
+                await index.stats()
+
+        self.run_tasks(work)
+        with self.assertRaises(buncocedar.ServerEnded):
+            asyncio.run(AsyncIndex.connect(self.path))
+
+
 class Rights(Case):
     def test_no_wider_than_those_of_the_file(self):
         # The rights of the file, whether its group is that of what is made, or can be given to it, and the rights that come of it.
@@ -578,6 +658,42 @@ class TogetherReal(Together, Case):
                 self.assertEqual(self.levels(), i)
             index.merge()
             self.assertEqual(self.levels(), 1)
+
+    def test_copies_between_two_lines(self):
+        self.serve()
+        ours = self.index()
+        ours.add_many((f"n{number}", "", f"fox {number}") for number in range(200))
+        ours.flush()
+        writing, stop = [], threading.Event()
+
+        def write():
+            with self.index() as index:
+                while not stop.is_set():
+                    writing.append(index.add(f"w{len(writing)}", "", "dog"))
+
+        thread = threading.Thread(target=write)
+        thread.start()
+        until(lambda: writing)
+        new = os.path.join(self.folder, "new.alta")
+        try:
+            for words in (["compact", self.path, new], ["check", self.path], ["status", self.path]):
+                done = subprocess.run(
+                    [sys.executable, BUNCO, *words],
+                    env={**os.environ, "BUNCOCEDAR_PROGRAM": self.program},
+                    capture_output=True,
+                    text=True,
+                    timeout=PATIENCE,
+                )
+                self.assertEqual(done.returncode, 0, done.stdout + done.stderr)
+        finally:
+            stop.set()
+            thread.join()
+        self.assertIn("clients", done.stdout)
+        ours.close()
+        with Index(new, program=self.program, server=False) as copy:
+            self.assertEqual(copy.count("fox"), 200)
+            self.assertLessEqual(copy.count("dog"), len(writing))
+            self.assertEqual(copy.stats().documents, 200 + copy.count("dog"))
 
     def test_the_same_answers(self):
         self.serve()

@@ -225,7 +225,7 @@ def checks(scripts):
     changes = [f"d{i}" if delete else (f"d{i}", "red fox", "the lazy dog " * 30) for i in range(12) for delete in ([0, 1] if i == 4 else [0])]
     content, places, found = split(random.Random(3), changes, len(changes))
     path = put(scripts.at("x.alta"), content)
-    checked(scripts, path, 0, "whole: 11 documents", "free room")
+    checked(scripts, path, 0, "no damage found: 11 documents", "free room")
     number, (level, place) = max(enumerate(zip(found, places), 1), key=lambda pair: len(pair[1][0]))
     at = place + list_of(level, b"Wlazy")
     slot, root = reading.read_roots(content)
@@ -242,7 +242,7 @@ def checks(scripts):
     subprocess.run([scripts.program, scripts.at("one.alta"), "init"], check=True)
     one = scripts.at("one.alta")
     answered(scripts.program, one, [*(f"add d{i}\t\tred fox" for i in range(99)), "merge"])
-    checked(scripts, one, 0, "whole: 99 documents", "levels: 1")
+    checked(scripts, one, 0, "no damage found: 99 documents", "levels: 1")
     content = bytearray(contents(one))
     place, length = reading.read_roots(content)[1].levels[0]
     content[place + list_of(bytes(content[place : place + length]), b"Wred")] = 0
@@ -253,6 +253,41 @@ def checks(scripts):
     put(one, b"a file of another kind")
     checked(scripts, one, 1, "it is no index")
     expect(scripts.run("check", scripts.at("none"))[0] == 3, "what is not there was checked")
+
+
+def digested(scripts, chance):
+    """A bit of a level that was flipped behind a check is found by the next one, wherever it is; a merge is no damage."""
+    path = scripts.at("kept.alta")
+    subprocess.run([scripts.program, path, "init"], check=True)
+    answered(scripts.program, path, [*(f"add d{i}\tthe title {i}\tred fox {i * 37}" for i in range(60)), "flush"])
+    answered(scripts.program, path, [*(f"add e{i}\t\tbrown dog {i * 41}" for i in range(60)), "flush", "add last\t\tfox"])
+    checked(scripts, path, 0, "no damage found: 121 documents")
+    checked(scripts, path, 0, "2 of 2 levels have the bytes")
+    content = contents(path)
+    for place, length in reading.read_roots(content)[1].levels:
+        for _ in range(6):
+            broken = bytearray(content)
+            broken[place + chance.randrange(length)] ^= 1 << chance.randrange(8)
+            put(path, bytes(broken))
+            checked(scripts, path, 1, "damaged")
+    put(path, content)
+    answered(scripts.program, path, ["delete d7", "merge"])
+    checked(scripts, path, 0, "no damage found: 120 documents")
+    checked(scripts, path, 0, "1 of 1 levels have the bytes")
+    checked_quickly(scripts, path)
+    for name in (path, path + ".digests"):
+        os.remove(name)
+
+
+def checked_quickly(scripts, path):
+    """The root alone is read, also where somebody has the index."""
+    with open(path, "rb") as file:
+        fcntl.flock(file, fcntl.LOCK_EX)
+        status, said = scripts.run("check", "--quick", path)
+        expect(status == 0 and "its root keeps all rules" in said, f"check --quick ended with {status} and said {said!r}")
+    for odd in ("/dev/zero", scripts.folder):
+        status, said = scripts.run("check", odd)
+        expect(status == 3 and "Traceback" not in said, f"check of {odd} ended with {status} and said {said!r}")
 
 
 def lost(scripts):
@@ -289,6 +324,7 @@ def main():
         refusals(scripts, chance)
         killed(scripts, chance)
         checks(scripts)
+        digested(scripts, chance)
         lost(scripts)
     print(f"upkeep: {options.rounds} rounds of copies, and what is refused, killed, damaged and lost")
 

@@ -1,4 +1,4 @@
-"""A copy of an index without its holes, while nothing else uses it."""
+"""A copy of an index without its holes, while nothing else uses it, or between two lines of its server."""
 
 # A copy is a new file, and none is ever put in the place of the old one: who waits for the lock of the old file would get
 # that of a file without a name. Its other root slot and the other half of the journal are zeros.
@@ -6,20 +6,28 @@
 import contextlib
 import fcntl
 import os
+import re
 import shutil
+import socket
+import stat
 import time
+from typing import List, NamedTuple
 
 from .beside import making
 from .fileformat import HALF, HEAD, SLOT, Unusable, read_root
 from .imports.stamps import stamps_path
+from .links import connected
 
 CHUNK = 1 << 20
+NO_COPY = "! copy "  # how a server begins to say why it makes none
 
 
 @contextlib.contextmanager
 def locked(path, patience=10.0):
     """The file of an index, open for reading, with the lock that the program takes: nothing else reads or writes it meanwhile."""
-    with open(path, "rb") as file:
+    with open(os.open(path, os.O_RDONLY | os.O_NONBLOCK | os.O_CLOEXEC), "rb") as file:
+        if not stat.S_ISREG(os.fstat(file.fileno()).st_mode):
+            raise NotHad(f"{path} is no plain file")
         until = time.monotonic() + patience
         while True:
             try:
@@ -27,7 +35,7 @@ def locked(path, patience=10.0):
                 break
             except BlockingIOError:
                 if time.monotonic() >= until:
-                    raise Unusable(f"{path} is in use") from None
+                    raise NotHad(f"{path} is in use") from None
                 time.sleep(0.05)
         yield file
 
@@ -69,6 +77,50 @@ def write_packed(source, root, target):
     target.truncate(max(target.tell(), HEAD))
 
 
+class NotHad(Unusable):
+    """Why an index could not be had at all: of what it has nothing is said."""
+
+
+class Copied(NamedTuple):
+    """A copy: its bytes, and where the deletion list and the levels of its root stand in the index that it is of."""
+
+    size: int
+    places: List[int]
+
+
+def copy_into(path, target, patience=10.0):
+    """Writes the index at a path into an open file, without its holes: by its server, or while nobody has it open.
+
+    Raises `Unusable` where it is damaged, no plain file, or in use for longer than so many seconds.
+    """
+    service = connected(path)
+    if service is not None:
+        return served_copy(service, target)
+    with locked(path, patience) as file:
+        root = read_root(file)
+        write_packed(file, root, target)
+        return Copied(target.tell(), [extent.place for extent in root.extents()])
+
+
+def served_copy(service, target):
+    """Has the server behind a link write its index into an open file."""
+    connection = service.connection
+    connection.setblocking(True)
+    with connection, connection.makefile("rb") as replies:
+        try:
+            socket.send_fds(connection, [b"copy\n"], [target.fileno()])
+            reply = replies.readline().decode(errors="replace").rstrip("\n")
+        except ConnectionError:
+            reply = ""
+    if reply.startswith(NO_COPY):
+        raise Unusable(reply[len(NO_COPY) :])
+    told = re.fullmatch("copied ([0-9]+)((?: [0-9]+)*)", reply)
+    if told is None:
+        raise NotHad("its server is an older one, which makes no copy" if reply == "! unknown command" else "its server has ended")
+    target.seek(0, os.SEEK_END)
+    return Copied(int(told[1]), list(map(int, told[2].split())))
+
+
 def sync_folder(path):
     handle = os.open(os.path.dirname(os.path.abspath(path)), os.O_RDONLY)
     try:
@@ -83,10 +135,15 @@ def put_copy(source, old, new):
     The stamps come first. Beside no index they do no harm, and the next copy of this name puts others in their place.
     """
     root = read_root(source)
+    put_written(lambda target: write_packed(source, root, target), old, new, os.fstat(source.fileno()).st_mode)
+
+
+def put_written(write, old, new, mode):
+    """Makes a file by this call, which writes an index into an open one, with these rights: as `put_copy` does."""
     with making(os.path.dirname(os.path.abspath(new))) as fresh:
         with open(fresh, "wb") as target:
-            write_packed(source, root, target)
-            os.fchmod(target.fileno(), os.fstat(source.fileno()).st_mode & 0o777)
+            write(target)
+            os.fchmod(target.fileno(), mode & 0o777)
             os.fsync(target.fileno())
         has_stamps = copy_stamps(stamps_path(old), stamps_path(fresh))
         if os.path.lexists(new):

@@ -3,7 +3,9 @@
 Each client speaks the lines of the program; `buncocedar.Index`, and what stands on it, finds the server by itself. One thread
 owns the index, and has lines of all clients answered in the order in which they come: of each client one, or one page of a search,
 or eight documents to be added or deleted. So neither a large search nor a client that reads slowly or sends much keeps the others
-waiting. A thread for each client reads its lines and writes its replies. A dump is one line, behind which all wait; its lines wait
+waiting. A thread for each client reads its lines and writes its replies. Two lines are the server's own: `copy` writes the index
+without its free room into a file that comes with the line, between two lines of others, and `figures` says how many clients there are,
+how many lines wait, and how many cursors are open. A dump is one line, behind which all wait; its lines wait
 in a file, and not for the client that reads them. A client has cursors of its own, which end with it. While nobody asks, levels are
 joined by steps, so that no add has to wait for a join.
 
@@ -46,7 +48,8 @@ from concurrent.futures import Future
 
 from .beside import give_rights
 from .errors import Ended, Error, Refused
-from .fileformat import level_count
+from .copying import NO_COPY, write_packed
+from .fileformat import Unusable, level_count, read_root
 from .index import Index
 from .lines import LINE_LIMIT
 from .links import server_path
@@ -62,6 +65,8 @@ BYTES_READ = 1 << 16  # of a client, at a time
 LEVELS_KEPT = 12  # of the sixteen that an index may have
 SECONDS_TO_LEAVE = 2  # that clients have to take their last replies when the server ends
 STOPPED = 3
+COPY, FIGURES = b"copy", b"figures"  # the lines that are no lines of the program
+FILES_AT_ONCE = 1  # that come with the lines that are read at a time
 
 _ON_A_CURSOR = re.compile(rb"(fetch|close) (0|[1-9][0-9]{0,19})(?![0-9])")
 _NO_CURSOR = b"65"  # a number that no cursor has
@@ -71,12 +76,34 @@ class Stopped(Exception):
     """The server ends, and takes no further line."""
 
 
+class Input:
+    """What comes from a client: bytes, and files beside them."""
+
+    def __init__(self, connection):
+        self._connection = connection
+        self._files = deque()
+
+    def recv(self, room):
+        data, handles, _, _ = socket.recv_fds(self._connection, room, FILES_AT_ONCE)
+        self._files += [os.fdopen(handle, "wb") for handle in handles]
+        return data
+
+    def file(self):
+        """The first file that has come and was not asked for, or None."""
+        return self._files.popleft() if self._files else None
+
+    def close(self):
+        while self._files:
+            self._files.popleft().close()
+
+
 class Session:
     """A client, whose lines are answered one after another."""
 
     def __init__(self, server, connection):
         self.server = server
         self.connection = connection
+        self.input = Input(connection)
         self.cursors = set()
         self.thread = threading.Thread(target=self.run, daemon=True)
 
@@ -85,7 +112,7 @@ class Session:
         try:
             with self.connection:
                 with contextlib.suppress(Ended, Stopped):
-                    for lines in batches(self.connection):
+                    for lines in batches(self.input):
                         for piece in self.replies(lines):
                             self.say(piece)
                 end = self.server.end
@@ -95,6 +122,7 @@ class Session:
             # The client has gone.
             pass
         finally:
+            self.input.close()
             with contextlib.suppress(Ended, Stopped):
                 for number in self.cursors:
                     self.ask(b"close %d" % number)
@@ -132,6 +160,10 @@ class Session:
             with self.ask(line) as file:
                 while lines := file.readlines(PIECE):
                     yield [line.rstrip("\n") for line in lines]
+        elif line == COPY:
+            yield self.copy()
+        elif line == FIGURES:
+            yield [self.server.figures()]
         elif word == b"open":
             lines = self.ask(line)
             if lines[0].startswith("cursor "):
@@ -142,6 +174,18 @@ class Session:
             if lines[0].startswith("closed "):
                 self.cursors.discard(int(lines[0].split(" ")[1]))
             yield lines
+
+    def copy(self):
+        """The reply to `copy`: how many bytes the copy has, and where what its root names stands in the index."""
+        file = self.input.file()
+        if file is None:
+            return ["! no file"]
+        try:
+            with file:
+                size, places = self.server.between(lambda: copied(self.server.file, file))
+        except (OSError, Unusable) as fault:
+            return [f"{NO_COPY}{getattr(fault, 'strerror', None) or fault}"]
+        return [f"copied {' '.join(map(str, [size, *places]))}"]
 
     def of_its_own(self, line):
         """The line as it is, and where it names a cursor of another client with a number that no cursor has."""
@@ -174,6 +218,13 @@ class Session:
         yield [f"found {found}"]
 
 
+def copied(source, target):
+    """Copies an index without its free room, and answers the size of the copy and the places of its extents in the source."""
+    root = read_root(source)
+    write_packed(source, root, target)
+    return target.tell(), [extent.place for extent in root.extents()]
+
+
 def is_change(line):
     """Whether a line adds or deletes a document: its reply hangs on nothing that the server knows."""
     return line.startswith((b"add ", b"delete "))
@@ -203,7 +254,7 @@ class Server:
         self.listener = listener
         self.sessions = set()
         self.end = None  # how the program has ended
-        self._jobs = queue.SimpleQueue()  # lines, each with the future of its reply; None wakes the owner
+        self._jobs = queue.SimpleQueue()  # lines and work, each with the future of what it gives; None wakes the owner
         self._sent = deque()  # replies that are under way, each with its future
         self._is_to_end = False  # it takes no line from the queue any more
         self._stopped = False  # it takes none into the queue
@@ -219,6 +270,16 @@ class Server:
         future = Future()
         self._jobs.put((line, future))
         return future
+
+    def between(self, work):
+        """What this work gives, which is done between two lines, when none is under way: for the threads of clients."""
+        return self.send(work).result()
+
+    def figures(self):
+        """The reply to `figures`."""
+        sessions = list(self.sessions)
+        cursors = sum(len(session.cursors) for session in sessions)
+        return f"figures clients {len(sessions)} waiting {self._jobs.qsize()} cursors {cursors}"
 
     def stop(self):
         """Asks the server to end, before the lines that wait. A handler of a signal may do so too."""
@@ -292,8 +353,11 @@ class Server:
 
     def _do(self, line, future):
         """Gives a line to the program, where few are under way, or the first of them has come."""
-        while len(self._sent) >= LINES_AHEAD:
+        while len(self._sent) >= (1 if callable(line) else LINES_AHEAD):
             self._settle()
+        if callable(line):
+            self._work(line, future)
+            return
         try:
             self._sent.append((self.index.send_line(line), future))
         except Refused as refusal:
@@ -301,6 +365,12 @@ class Server:
         except Error as error:
             self._fail(error)
             future.set_exception(self.end)
+
+    def _work(self, work, future):
+        try:
+            future.set_result(work())
+        except (OSError, Unusable) as fault:
+            future.set_exception(fault)
 
     def _settle(self):
         """Waits for the first reply that is under way, and hands it on."""

@@ -20,7 +20,7 @@ from .stamps import Place, stamps_path
 
 BINARY_LOOK = 8_192  # bytes that are looked at for a NUL
 CHUNK = 1 << 20
-SKIPPED = (".git", ".hg", ".svn", "*.alta", "*.alta.stamps", "*.alta.stamps.new", "*.alta.socket")
+SKIPPED = (".git", ".hg", ".svn", "*.alta", "*.alta.stamps", "*.alta.stamps.new", "*.alta.socket", "*.alta.digests", "*.alta.digests.new")
 
 
 def no_document(path, why):

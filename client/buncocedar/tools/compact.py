@@ -1,4 +1,4 @@
-"""Copies an index without its holes: to a new file, while nothing else uses the old one.
+"""Copies an index without its holes: to a new file, while nothing else uses the old one, or between two lines of its server.
 
 A file keeps its greatest size, and after many joins more than half of it may be free room. NEW has what OLD's root names and
 nothing besides, answers as OLD does, and is whole or not there at all, with the stamps of OLD; OLD stays as it is. So this is
@@ -11,8 +11,9 @@ import argparse
 import os
 import sys
 
-from ..copying import locked, put_copy
+from ..copying import copy_into, put_written
 from ..fileformat import Unusable
+from ..terminal import why
 
 
 def parser():
@@ -28,14 +29,14 @@ def parser():
 def main(arguments=None):
     options = parser().parse_args(arguments)
     try:
-        with locked(options.old) as file:
-            put_copy(file, options.old, options.new)
-            sizes = os.fstat(file.fileno()).st_size, os.path.getsize(options.new)
+        found = os.stat(options.old)
+        put_written(lambda target: copy_into(options.old, target), options.old, options.new, found.st_mode)
+        sizes = found.st_size, os.path.getsize(options.new)
     except Unusable as fault:
-        print(f"compact: {options.old}: {fault}", file=sys.stderr)
+        print(f"compact: {fault}" if str(fault).startswith(options.old) else f"compact: {options.old}: {fault}", file=sys.stderr)
         return 3
     except OSError as error:
-        print(f"compact: {error.filename or options.old}: {error.strerror}", file=sys.stderr)
+        print(f"compact: {why(error)}" if error.filename else f"compact: {options.old}: {error.strerror}", file=sys.stderr)
         return 3
     except KeyboardInterrupt:
         return 130

@@ -9,6 +9,7 @@ import argparse
 import collections
 import json
 import os
+import re
 import sys
 
 from ..errors import Error
@@ -16,8 +17,10 @@ from ..fileformat import HEAD, Unusable, read_root
 from ..holders import holder
 from ..imports.stamps import Records, stamps_path
 from ..index import Index
+from ..links import connected
 
 STOPPED = 3
+FIGURES = re.compile(rb"figures clients ([0-9]+) waiting ([0-9]+) cursors ([0-9]+)\n")
 
 
 def parser():
@@ -46,6 +49,19 @@ def of_program(path, patience):
         return index.stats()._asdict()
 
 
+def of_server(path):
+    """What the server of the index says of its clients; nothing where none listens, or an older one."""
+    service = connected(path)
+    if service is None:
+        return {}
+    service.connection.setblocking(True)
+    with service.connection as connection, connection.makefile("rwb") as lines:
+        lines.write(b"figures\n")
+        lines.flush()
+        told = FIGURES.fullmatch(lines.readline())
+    return {"server": dict(zip(("clients", "waiting", "cursors"), map(int, told.groups())))} if told else {}
+
+
 def of_stamps(path):
     """What was brought in: of each source its kind, its path, and how many documents are its."""
     records = Records(stamps_path(path))
@@ -60,6 +76,9 @@ def shown(path, known):
         yield f"{path}: {known['documents']:,} documents of {known['words']:,} words; the next one gets the number {known['next']:,}"
     if "bytes" in known:
         yield f"{path}: {known['bytes']:,} bytes, of which {known['free']:,} are free room; levels: {known['levels']}"
+    if "server" in known:
+        # The client that asks is one of them.
+        yield "{}: its server has {clients:,} clients, {waiting:,} lines that wait, and {cursors:,} open cursors".format(path, **known["server"])
     if known["holder"]:
         yield f"{path}: open in {known['holder']}"
     for source in known["sources"]:
@@ -70,7 +89,7 @@ def main(arguments=None):
     options = parser().parse_args(arguments)
     path, faults = options.index, []
     known = {"holder": holder(path), "sources": []}
-    for look in (of_file, lambda path: of_program(path, options.wait), lambda path: {"sources": of_stamps(path)}):
+    for look in (of_file, of_server, lambda path: of_program(path, options.wait), lambda path: {"sources": of_stamps(path)}):
         try:
             known.update(look(path))
         except (Error, OSError, Unusable) as error:
