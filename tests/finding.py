@@ -242,12 +242,16 @@ class NobodyWaits(Case):
         variables = {"BUNCOCEDAR_HISTORY": "", "TERM": "dumb"}
         process = self.start("find", self.path, "--color", "never", variables=variables, stdin=theirs, stdout=theirs)
         os.close(theirs)
-        for line, answer in ((b"fox\n", "found 1"), (b"top 1 fox\n", "found 2")):
-            shown_until(ours, "find> ")
+        shown = ""
+        for line, row, answer in ((b"fox\n", "1 a 1", "found 1"), (b"top 1 fox\n", "2 b 1\r\n... and 1 more", "found 2")):
+            while "find> " not in shown:
+                shown += os.read(ours, 4096).decode()
             with self.index() as index:
                 self.assertEqual(index.stats().documents, index.count("fox"))
             os.write(ours, line)
-            self.assertIn("1 a", shown_until(ours, answer))
+            shown = shown_until(ours, answer)
+            self.assertIn(row, shown)
+            shown = shown.rpartition(answer)[2]
             with self.index() as index:
                 index.add("b", "", "fox")
         os.write(ours, b"quit\n")
