@@ -516,6 +516,7 @@ class Tasks(Case):
                 await index.stats()
 
         self.run_tasks(work)
+        server.wait(PATIENCE)
         with self.assertRaises(buncocedar.ServerEnded):
             asyncio.run(AsyncIndex.connect(self.path))
 

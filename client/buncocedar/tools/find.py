@@ -34,7 +34,7 @@ from .reading import Readable
 from .view import View
 
 PROMPT_LIMIT = 20
-PROMPT_WORDS = ("title:", "name:", "value:", "NEAR/", "AND ", "OR ", "NOT ", "help ", "quit ", "show ", "edit ", "top ")
+PROMPT_WORDS = ("title:", "name:", "value:", "NEAR/", "AND ", "OR ", "NOT ", "help", "quit", "show ", "edit ", "top ")
 VARIABLE = "BUNCOCEDAR_INDEX"
 
 

@@ -30,7 +30,9 @@ merge               joins all levels to one
 step TERMS          a part of a join of the two oldest levels
 help, quit          this text; the end, as Ctrl-D
 A query: words, "a phrase", qui*, title:fox, name:x, red NEAR/5 fox, AND, OR, NOT, ( )"""
-WORDS = [line.split()[0] for line in HELP.split("\n")[:14]] + ["help", "quit", "title:", "name:", "NEAR/", "AND", "OR", "NOT"]
+# Behind a command that takes more stands the blank before that.
+COMMANDS = [line.partition("  ")[0] for line in HELP.split("\n")[:14]]
+WORDS = [line.split()[0] + " " * (" " in line) for line in COMMANDS] + ["help", "quit", "title:", "name:", "NEAR/", "AND ", "OR ", "NOT "]
 SOME_REFUSED = 1
 STOPPED = 3
 

@@ -113,8 +113,8 @@ class View:
 
     def link(self, found, text):
         """The text, on a terminal as a link to the file, where the document is all of it."""
-        is_file = self.terminal and self.paint.on and found.begin is None
-        return linked(text, found.path) if is_file else text
+        is_shown = self.terminal and self.paint.on and os.environ.get("TERM") != "dumb"
+        return linked(text, found.path) if is_shown and found.begin is None else text
 
     def grep(self, name):
         """Writes each line of a file that answers as PATH:LINE:TEXT, as editors and grep have it."""
