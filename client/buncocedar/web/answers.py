@@ -249,7 +249,7 @@ class Library:
     def _newest(self, index: AnyIndex, query: str, begin: str, places: Places) -> "Tuple[int, list, str]":
         """The rows before that of a number, the last ones first: whatever is added meanwhile, no row comes twice."""
         last = LastRows(int(begin) if begin.isdecimal() and len(begin) < 20 else None)
-        for row in whole_documents(index, index.search(query), places):
+        for row in whole_documents(index.search(query), places):
             last.take(*row)
         rows = last.rows()
         return last.total, rows[:ROWS], str(rows[ROWS - 1][0]) if len(rows) > ROWS else ""
