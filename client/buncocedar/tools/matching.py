@@ -53,10 +53,28 @@ def joined_terms(variables, bounds):
     return phrases
 
 
+class Pattern(NamedTuple):
+    """What a phrase is looked for by: whether in the folded text, and the text with which each match begins."""
+
+    folds: bool
+    regular: re.Pattern
+    front: str
+
+    def search(self, text, at):
+        """The first match from a place on, or None. Python finds a text much sooner than what only begins like one."""
+        while (at := text.find(self.front, at)) >= 0:
+            match = self.regular.match(text, at)
+            if match:
+                return match
+            at += 1
+        return None
+
+
 def pattern_of(phrase, between=r"[^\w\n]+"):
-    """Whether the phrase is looked for in the folded text, and its pattern; by default its words stand in one line."""
+    """The pattern of a phrase; by default its words stand in one line."""
     words = [re.escape(term.text) + (r"\w*" if term.open_end else "") for term in phrase]
-    return all(term.folded for term in phrase), re.compile(r"(?<!\w)" + between.join(words) + r"(?!\w)")
+    regular = re.compile(r"(?<!\w)" + between.join(words) + r"(?!\w)")
+    return Pattern(all(term.folded for term in phrase), regular, phrase[0].text)
 
 
 def folded(text):
@@ -71,9 +89,9 @@ def spans_of(text, patterns):
     """Where the patterns stand in a text: spans that rise and don't meet, and how many of the patterns have one."""
     fold, places = folded(text)
     spans, met = [], 0
-    for folds, pattern in patterns:
-        found = [match.span() for match in pattern.finditer(fold if folds else text)]
-        if folds and places:
+    for pattern in patterns:
+        found = [match.span() for match in pattern.regular.finditer(fold if pattern.folds else text)]
+        if pattern.folds and places:
             found = [(places[begin], places[end - 1] + 1) for begin, end in found]
         met += bool(found)
         spans += found
@@ -99,7 +117,7 @@ def lines_with(text, pattern):
 
 def lines_with_any(text, fold, patterns):
     """The numbers from 0 of the lines in which one of the patterns stands, as they rise."""
-    lines = heapq.merge(*(lines_with(fold if folds else text, pattern) for folds, pattern in patterns))
+    lines = heapq.merge(*(lines_with(fold if pattern.folds else text, pattern) for pattern in patterns))
     return [number for number, _ in itertools.groupby(lines)]
 
 
@@ -108,7 +126,7 @@ def fullest_line(text, fold, patterns):
 
     Each pattern is looked for once in the whole text, and a line without any is never looked at.
     """
-    lines = heapq.merge(*(lines_with(fold if folds else text, pattern) for folds, pattern in patterns))
+    lines = heapq.merge(*(lines_with(fold if pattern.folds else text, pattern) for pattern in patterns))
     best, at = 0, None
     for number, met in itertools.groupby(lines):
         count = sum(1 for _ in met)
@@ -147,9 +165,9 @@ class Wanted:
 
     def broken_phrase(self, text, fold):
         """The line in which the first phrase begins that goes on in the next."""
-        for folds, pattern in self.long:
-            searched = fold if folds else text
-            match = pattern.search(searched)
+        for pattern in self.long:
+            searched = fold if pattern.folds else text
+            match = pattern.search(searched, 0)
             if match:
                 return searched.count("\n", 0, match.start())
         return None
