@@ -122,7 +122,7 @@ class Moving(Commands):
     def test_a_check(self):
         self.needs_the_program()
         self.filled().close()
-        self.assertEqual(self.bunco("shards", "check", self.folder)[0].count(": whole: "), 4)
+        self.assertEqual(self.bunco("shards", "check", self.folder)[0].count(": no damage found: "), 4)
         with open(shard_path(self.folder, 2), "r+b") as file:
             file.truncate(100_000)
         self.assertIn("00002.alta: ", self.bunco("shards", "check", self.folder, status=1)[0])

@@ -74,8 +74,9 @@ def differences(before: Optional[Digests], now: Digests) -> Tuple[int, List[int]
     """How many levels are known from an earlier check, and which of them have other bytes: 0 is the list of deleted documents."""
     if before is None:
         return 0, []
+    pairs: List[Tuple[Optional[Level], Level]]
     if before.root() == now.root():
-        pairs = list(zip(before.levels, now.levels))
+        pairs = [(one, other) for one, other in zip(before.levels, now.levels)]
     else:
         known = {(level.length, level.front): level for level in before.levels[1:]}
         pairs = [(known.get((level.length, level.front)) if number else None, level) for number, level in enumerate(now.levels)]
