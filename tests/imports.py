@@ -6,11 +6,11 @@ usage: tests/imports.py [--program PATH]
 Without --program the tests of the real program are left out, and that is said.
 """
 
-import base64
 import collections
 import contextlib
 import datetime
 import email.message
+import functools
 import glob
 import gzip
 import io
@@ -32,18 +32,17 @@ from unittest import mock
 # It lets the others find the client of the checkout.
 from support import BUNCO, PATIENCE, run_tests, until  # isort: skip
 
-import fake
 from buncocedar import LINE_LIMIT, Index, terminal
 from buncocedar.document import Document, NoText, Text, Unseen
-from buncocedar.imports import bringing, engine, folder, mail, naming, packages, stamps
+from buncocedar.imports import bringing, engine, folder, making, naming, packages, packed, stamps
 from buncocedar.imports.interrupts import Interrupts
 from buncocedar.imports.log import Log
-from buncocedar.imports.parts import OVERLAP, parts_of, spaced
+from buncocedar.imports.parts import parts_of
 from buncocedar.imports.stamps import name_of
-from buncocedar.tools import matching, prompt
+from buncocedar.tools import documents, find, matching, prompt
 from buncocedar.tools import rows as answer_rows
+from cases import FAKE, Case
 
-FAKE = fake.installed()
 PROGRAM = None
 
 
@@ -59,100 +58,6 @@ def read_all(terminal):
             os.close(terminal)
             return shown.decode()
         shown += data
-
-
-@contextlib.contextmanager
-def processor_time(seconds):
-    """Fails where what is done inside takes more time of the processor, however busy that is."""
-
-    def fail(number, frame):
-        raise AssertionError(f"it takes more than {seconds} seconds")
-
-    before = signal.signal(signal.SIGPROF, fail)
-    signal.setitimer(signal.ITIMER_PROF, seconds, seconds)
-    try:
-        yield
-    finally:
-        signal.setitimer(signal.ITIMER_PROF, 0)
-        signal.signal(signal.SIGPROF, before)
-
-
-class Case(unittest.TestCase):
-    program = FAKE
-
-    def setUp(self):
-        self.place = tempfile.TemporaryDirectory()
-        self.addCleanup(self.place.cleanup)
-        self.path = self.at("x.alta")
-        self.mark = self.at("mark")
-
-    def at(self, name):
-        return os.path.join(self.place.name, name)
-
-    def write(self, name, content):
-        path = self.at(name)
-        os.makedirs(os.path.dirname(path), exist_ok=True)
-        with open(path, "wb") as file:
-            file.write(content if isinstance(content, bytes) else content.encode())
-        return path
-
-    def read(self, path):
-        with open(path, "rb") as file:
-            return file.read()
-
-    def start(self, script, *words, do=None, **options):
-        """A command of `bunco` over the fake program, which does this."""
-        environment = {**os.environ, "BUNCOCEDAR_PROGRAM": self.program, "FAKE": json.dumps(do or {})}
-        options = {"stdin": subprocess.DEVNULL, "stdout": subprocess.PIPE, "stderr": subprocess.PIPE, **options}
-        # Without what is installed beside Python, which the scripts do without.
-        command = [sys.executable, "-S", BUNCO, script, *words]
-        return subprocess.Popen(command, env=environment, text=True, errors="replace", **options)
-
-    def run_script(self, script, *words, do=None, expect=0, **options):
-        """What it prints on standard error, where it ends with the expected status."""
-        process = self.start(script, *words, do=do, **options)
-        self.out, err = process.communicate(timeout=PATIENCE)
-        self.assertEqual(process.returncode, expect, err)
-        return err
-
-    def main(self, script, *words, expect=0):
-        """The same of a script that runs in this process."""
-        told = io.StringIO()
-        with mock.patch.object(sys, "argv", [script.__name__, *words]), contextlib.redirect_stderr(told):
-            with mock.patch.dict(os.environ, {"BUNCOCEDAR_PROGRAM": self.program}):
-                self.assertEqual(script.main(), expect, told.getvalue())
-        return told.getvalue()
-
-    def stored(self):
-        """The live documents of the fake's file: name to (number, title, body)."""
-        documents = {}
-        number = 0
-        with open(self.path, encoding="utf-8", newline="\n") as file:
-            for line in list(file)[1:]:
-                word, _, rest = line.rstrip("\n").partition(" ")
-                if word == "add":
-                    number += 1
-                    name, title, body = rest.split("\t", 2)
-                    documents.pop(name, None)
-                    documents[name] = (number, title, body)
-                else:
-                    del documents[rest]
-        return documents
-
-    def bodies(self):
-        return {name: body for name, (_, _, body) in self.stored().items()}
-
-    def whole(self, name):
-        """The body of a document from its parts, without what two of them share, and how many there are."""
-        bodies = self.bodies()
-        body, number = bodies[name], 1
-        while stamps.part_name(name, number + 1) in bodies:
-            number += 1
-            following = bodies[stamps.part_name(name, number)]
-            shared = " ".join(body[-5_000:].split(" ")[-OVERLAP :])
-            self.assertTrue(following.startswith(shared + " "), number)
-            body += following[len(shared) :]
-        return body, number
 
 
 class Folders(Case):
@@ -231,7 +136,7 @@ class Folders(Case):
         self.write("notes/007.txt", "another text")
         self.write("notes/new.txt", "new")
         self.assertIn("21 documents: 1 added, 1 changed, 19 unchanged", self.run_script("folder", self.path, notes))
-        self.assertEqual(self.stored()["007.txt"], (22 - 1, "007.txt", "another text"))
+        self.assertEqual(self.stored()["007.txt"], (22 - 1, "007.txt", "007.txt ext:txt another text"))
         # What the index has lost is said, and brought in again.
         content = self.read(self.path)
         self.write("x.alta", b"".join(content.splitlines(True)[:-2]))
@@ -248,35 +153,41 @@ class Folders(Case):
         self.assertIn("21 documents: 21 added", self.run_script("folder", self.path, notes))
         self.assertIn("0 added, 21 unchanged", self.run_script("folder", self.path, notes))
 
-    def test_torn_stamps(self):
+    def test_stamps_of_a_version_before(self):
         notes = self.notes(5)
         self.run_script("folder", self.path, notes)
-        with open(self.path + ".stamps", "r+b") as file:
-            file.seek(-20, os.SEEK_END)
-            file.truncate()
+        lines = self.older_stamps()
+        self.write("x.alta.stamps", lines[:-20])
+        self.assertEqual(len(stamps.Records(self.path + ".stamps").of), 4)
         self.assertIn("1 added again, 4 unchanged", self.run_script("folder", self.path, notes))
-        with open(self.path + ".stamps", "ab") as file:
-            file.write(b"\0\xff broken\n000.txt 1 nothing\n" + b"gone 7 " + b"0" * 32 + b" 00000000\n")
-            file.write(b"\n" * 5000)
+        broken = b"\0\xff broken\n000.txt 1 nothing\n" + b"gone 7 " + b"0" * 32 + b" 00000000\n"
+        self.write("x.alta.stamps", self.older_stamps() + broken + b"\n" * 5000)
         self.assertIn("0 added, 5 unchanged", self.run_script("folder", self.path, notes))
-        self.assertLess(os.path.getsize(self.path + ".stamps"), 1000)
+        self.assertEqual(sorted(os.listdir(self.place.name)), ["notes", "x.alta", "x.alta.stamps"])
         self.assertIn("0 added, 5 unchanged", self.run_script("folder", self.path, notes))
+
+    def test_stamps_that_are_damaged(self):
+        notes = self.notes(5)
+        self.run_script("folder", self.path, notes)
+        content = self.read(self.path + ".stamps")
+        self.write("x.alta.stamps", content[:100] + b"\xff" * (len(content) - 100))
+        said = self.run_script("folder", self.path, notes, expect=3)
+        self.assertRegex(said, r"the stamps .* can't be read: .*; without them the next import brings in everything again\n")
+        os.remove(self.path + ".stamps")
+        self.assertIn("5 added again", self.run_script("folder", self.path, notes))
 
     def test_stamps_that_cannot_be_written(self):
         notes = self.notes(200)
 
-        class OnFullDisk(bringing.Stamps):
+        class Unwritable(bringing.Stamps):
             def __init__(self, *words):
                 super().__init__(*words)
-                os.dup2(os.open("/dev/full", os.O_WRONLY), self.file)
-
-            def close(self):
-                os.close(self.file)
+                self.base.execute("PRAGMA query_only = ON")
 
         told = io.StringIO()
         variables = {"BUNCOCEDAR_PROGRAM": FAKE}
-        with mock.patch.object(bringing, "Stamps", OnFullDisk), mock.patch.dict(os.environ, variables):
-            with contextlib.redirect_stderr(told):
+        with mock.patch.object(bringing, "Stamps", Unwritable), mock.patch.dict(os.environ, variables):
+            with contextlib.redirect_stderr(told), mock.patch.object(stamps, "SECONDS_BETWEEN_WRITES", 0):
                 source = stamps.Source("folder", notes)
                 self.assertEqual(bringing.bring("folder", self.path, source, folder.files(notes)), 3)
         self.assertIn("stopped: the stamps could not be written", told.getvalue())
@@ -391,8 +302,9 @@ class Folders(Case):
         stored = len(self.stored())
         self.assertEqual(stored, 148)
         said = self.run_script("folder", self.path, notes)
-        counts = re.search(r"300 documents: 152 added, (?:(\d+) added again, )?(\d+) unchanged", said)
-        self.assertEqual(int(counts[1] or 0) + int(counts[2]), stored)
+        # The stamps of the last moment are not written.
+        counts = re.search(r"300 documents: 152 added(?:, (\d+) added again)?(?:, (\d+) unchanged)?\n", said)
+        self.assertEqual(int(counts[1] or 0) + int(counts[2] or 0), stored)
         self.assertEqual(self.bodies(), {f"{i:03}.txt": f"text {i}" for i in range(300)})
 
     def test_interrupts(self):
@@ -491,7 +403,7 @@ class Folders(Case):
 
         # Five documents fill the journal, and there are three levels at most: the first merge comes where the journal behind three has one.
         notes = self.notes(30)
-        half = 5 * (len("add 000.txt\t000.txt\ttext 00") + engine.RECORD)
+        half = 5 * (len("add 000.txt\t000.txt\t000.txt ext:txt text 00") + engine.RECORD)
         few_levels = lambda: mock.patch.multiple(engine, HALF=half, LEVELS=3)
         source = stamps.Source("folder", notes)
         for merge, merges in ((True, [16, 27]), (False, [])):
@@ -555,7 +467,7 @@ class Folders(Case):
         notes = self.notes(3)
         self.write("notes/bad", b"\xff")
         said = self.run_script("folder", "-", notes, expect=1)
-        self.assertEqual(self.out.split("\n")[:2], ["add 000.txt\t000.txt\ttext 0", "add 001.txt\t001.txt\ttext 1"])
+        self.assertEqual(self.out.split("\n")[:2], ["add 000.txt\t000.txt\t000.txt ext:txt text 0", "add 001.txt\t001.txt\t001.txt ext:txt text 1"])
         self.assertIn("3 documents written, 0 in parts, 0 passed over, 1 refused", said)
 
     def test_lines_that_cannot_be_written(self):
@@ -573,6 +485,77 @@ class Folders(Case):
         process.communicate(timeout=PATIENCE)
         self.assertRegex(said, r"\r\x1b\[K1 document, 0 stored, [\d,]+ kB a second, 0 refused")
         self.assertRegex(said, r"\r\x1b\[Kfolder: 50 documents: 50 added\r\n$")
+
+
+    def test_names_and_paths(self):
+        self.write("notes/built in/sub/commit_all.c.gz", gzip.compress(b"int main"))
+        self.main(folder, self.path, self.at("notes"))
+        ((name, (_, title, body)),) = self.stored().items()
+        self.assertEqual(title, "commit_all.c.gz commit_all.c.gz commit all gz")
+        self.assertEqual(
+            body, "built in/sub/commit_all.c.gz commit_all.c.gz commit all gz dir:built in/sub dir:sub ext:c ext:gz int main"
+        )
+
+    def test_filters(self):
+        self.write("notes/a.pdf", b"%PDF\0 red fox")
+        self.write("notes/b.pdf", b"")
+        words = ("--filter", "*.pdf=tail -c 7 | grep .")
+        said = self.main(folder, *words, self.path, self.at("notes"), expect=1)
+        self.assertIn("2 documents: 1 added, 1 refused\n", said)
+        self.assertIn("refused b.pdf: 'tail -c 7 | grep .' ended with status 1\n", said)
+        self.assertEqual(self.bodies()["a.pdf"], "red fox")
+        self.assertIn("0 added, 1 unchanged, 1 refused", self.main(folder, *words, self.path, self.at("notes"), expect=1))
+        # The command is not run by who looks at the answer.
+        found = stamps.Records(self.path + ".stamps").found("a.pdf")
+        self.assertEqual(documents.text_at(found), "a filter made its text, which is not run to show it")
+        self.assertIn("is not of the form PATTERN=COMMAND", self.run_script("folder", "--filter", "x", self.path, self.at("notes"), expect=2))
+
+    @unittest.skipIf(shutil.which("git") is None, "git is missing")
+    def test_what_git_ignores(self):
+        for name in ("a.c", "sub/b.c", "sub/b.o", "made/c.o", "other/.git/x", "other/d.o"):
+            self.write(f"notes/{name}", name)
+        self.write("notes/.gitignore", "*.o\nmade\n")
+        subprocess.run(["git", "init", "-q", self.at("notes")], check=True)
+        self.main(folder, self.path, self.at("notes"))
+        self.assertLessEqual({"a.c", "sub/b.c"}, set(self.stored()))
+        self.assertFalse({"sub/b.o", "made/c.o"} & set(self.stored()))
+        self.main(folder, "--no-ignore", self.path, self.at("notes"))
+        self.assertLessEqual({"sub/b.o", "made/c.o"}, set(self.stored()))
+
+    def test_processes(self):
+        """Documents are made in several processes as in one: in their order, with their faults, and where one of them is killed."""
+        def jobs():
+            for number in range(100):
+                load = folder.raised if number % 10 == 7 else Text
+                words = (NoText(f"no {number}"),) if number % 10 == 7 else ("title", f"text {number}")
+                yield making.Job(str(number), functools.partial(load, *words), number % 2 == 0, False)
+
+        def made(count, before=lambda makers: None):
+            makers = making.Makers(count)
+            found = []
+            for job in jobs():
+                makers.put(job, 100_000)
+                before(makers)
+                found += makers.ready()
+            found += makers.ready(all_of_them=True)
+            makers.close()
+            return [(job.name, str(result)) for job, result in found]
+
+        def kill(makers):
+            if len(makers.under_way) == 2:
+                makers.under_way[0][0].process.kill()
+
+        alone = made(1)
+        self.assertEqual([name for name, _ in alone], [str(number) for number in range(100)])
+        self.assertEqual(alone[7], ("7", "no 7"))
+        with mock.patch.object(making, "SECONDS_ALONE", -1):
+            self.assertEqual(made(2), alone)
+            self.assertEqual(made(2, kill), alone)
+            # What no other process can be given is made here.
+            makers = making.Makers(2)
+            makers.put(making.Job("a", lambda: Text("", "b"), False, False))
+            self.assertEqual([result.parts for _, result in makers.ready(all_of_them=True)], [[("a", "", "b")]])
+            makers.close()
 
 
 class Sources(Case):
@@ -619,9 +602,9 @@ class Sources(Case):
         self.assertIn("1 added", self.folder("four"))
         self.assertEqual(self.bodies(), {"a.txt": "red", "a.txt~2": "fox", "a.txt~3": "dog"})
         # The stamps of a version before count, but say nothing of a text in another folder.
-        contents = self.read(self.path + ".stamps").count(b" ")
-        self.write("x.alta.stamps", re.sub(rb"(?m)^([^=].* .* .* .* .*) .*$", rb"\1", self.read(self.path + ".stamps")))
-        self.assertLess(self.read(self.path + ".stamps").count(b" "), contents)
+        lines = self.older_stamps()
+        self.write("x.alta.stamps", re.sub(rb"(?m)^([^=].* .* .* .* .*) .*$", rb"\1", lines))
+        self.assertLess(self.read(self.path + ".stamps").count(b" "), lines.count(b" "))
         self.assertIn("0 added, 1 unchanged", self.folder("two"))
         shutil.move(self.at("two"), self.at("five"))
         self.assertIn("2 documents of earlier runs came from", self.folder("five"))
@@ -645,7 +628,7 @@ class Sources(Case):
         self.assertIn("refused 'a.txt'", self.folder("two", "--prune", expect=1))
         os.remove(self.at("two/a.txt"))
         os.symlink("a.txt", self.at("two/a.txt"))
-        self.assertIn("refused 'a.txt': Too many levels", self.folder("two", "--prune", expect=1))
+        self.assertIn("nothing was pruned", self.folder("two", "--prune"))
         self.assertEqual(self.bodies(), {"b.txt": "one/b.txt", "a.txt~2": "changed"})
 
     def test_a_file_that_is_named_like_a_second_one(self):
@@ -738,7 +721,7 @@ class Sources(Case):
     def test_messages_made_anew_in_two_archives(self):
         self.documents(("x", "before x"), ("y", "before y"), source="one")
         self.documents(("x", "before x"), source="two")
-        former = [Document(name, f"now {name}".encode(), lambda name=name: Text("", name), former=f"before {name}".encode()) for name in "xy"]
+        former = [Document(name, f"now {name}".encode(), lambda name=name: Text("", name), former=(f"before {name}".encode(),)) for name in "xy"]
         for source, found in (("one", former), ("two", former[:1]), ("one", former)):
             with mock.patch.dict(os.environ, {"BUNCOCEDAR_PROGRAM": FAKE}), contextlib.redirect_stderr(io.StringIO()):
                 bringing.bring("mail", self.path, stamps.Source("mail", self.at(source)), found)
@@ -747,7 +730,8 @@ class Sources(Case):
     def test_a_line_torn_in_its_place(self):
         self.documents(("x", "1", "@3+40"), source="one")
         self.documents(("y", "2", "@0+3"), source="two")
-        lines = self.read(self.path + ".stamps")
+        lines = self.older_stamps()
+        self.assertIn(b"@3+40\n", lines)
         self.write("x.alta.stamps", lines.replace(b"@3+40\n", b"@3\n"))
         self.assertIn("0 added, 1 unchanged", self.documents(("y", "2", "@0+3"), source="two"))
         self.assertIn("1 added again", self.documents(("x", "1", "@3+40"), source="one"))
@@ -779,7 +763,7 @@ class Sources(Case):
         self.assertEqual({source.kind for source in stamps.Records(self.path + ".stamps").sources.values()}, {"mail", "folder"})
         # In the stamps of a version before both are one source, of the kind that came last.
         known = stamps.digest(self.at("box").encode(), 4)
-        lines = [re.sub(r"^([^=]\S* \S+ \S+) \S+", rf"\1 {known}", line) for line in self.read(self.path + ".stamps").decode().splitlines()]
+        lines = [re.sub(r"^([^=]\S* \S+ \S+) \S+", rf"\1 {known}", line) for line in self.older_stamps().decode().splitlines()]
         self.note("box/cur/0", "of a message")
         index = self.read(self.path)
         for kind, run in (
@@ -826,7 +810,7 @@ class Sources(Case):
         self.write("many", "\n" * 2_000)
         older = os.open(self.at("many"), os.O_WRONLY)
         other = stamps.Stamps(self.at("many"))
-        self.assertEqual(os.path.getsize(self.at("many")), 0)
+        self.assertEqual(self.read(self.at("many"))[:16], stamps.MAGIC)
         self.assertTrue(stamps.lock(older))
         self.assertFalse(stamps.is_at(older, self.at("many")))
         os.close(older)
@@ -894,7 +878,7 @@ class Sources(Case):
         # Of what is no text no more is read than is looked at.
         self.write("zeros", bytes(1 << 20))
         self.write("zeros.gz", gzip.compress(bytes(1 << 20)))
-        with mock.patch.object(folder, "open", Counted, create=True):
+        with mock.patch.object(packed, "open", Counted, create=True):
             self.assertRaises(NoText, folder.text_of, self.at("zeros"))
         unpack = gzip.GzipFile.read
         with mock.patch.object(gzip.GzipFile, "read", lambda file, size=-1: taken.append(size) or unpack(file, size)):
@@ -936,295 +920,6 @@ class Sources(Case):
         self.assertIn("0 added, 1 unchanged", self.folder("notes"))
 
 
-LETTER = b"""From a@b Mon Jan  1 00:00:00 2024
-Message-ID: <%s@x>
-Subject: about %s
-
-the text of %s
-"""
-
-
-class Mail(Case):
-    def test_split(self):
-        for archive, messages in [
-            (b"", []),
-            (b"From a Mon Jan 1 00:00\nA: b\n\nc\n", [b"A: b\n\nc\n"]),
-            (b"From a Mon Jan 1 00:00\nA: b\n\nFrom here on\nit is text\n", [b"A: b\n\nFrom here on\nit is text\n"]),
-            (b"From a\nTo: b\n\nc\nFrom d\nTo: f\n", [b"To: b\n\nc\nFrom d\nTo: f\n"]),
-            (b"From a\nTo: b\n\nc\n\nFrom d\nX-E: f\n\ng", [b"To: b\n\nc\n\n", b"X-E: f\n\ng"]),
-            (b"From a\r\nTo: b\r\n\r\nc\r\n\r\nFrom d\r\nTo: f\r\n", [b"To: b\r\n\r\nc\r\n\r\n", b"To: f\r\n"]),
-            (b"A: b\n\nc\n", [b"A: b\n\nc\n"]),
-            (b"junk\n\nFrom a\nsubject : b\n", [b"junk\n\n", b"subject : b\n"]),
-            # Paragraphs of a text are no beginnings.
-            (b"A: b\n\nFrom Berlin we go to\nParis: the city\n", [b"A: b\n\nFrom Berlin we go to\nParis: the city\n"]),
-            (b"A: b\n\nFrom the page\nhttp://x/y\n", [b"A: b\n\nFrom the page\nhttp://x/y\n"]),
-            (b"A: b\n\nFrom now on, Monday at 10:30\n\n", [b"A: b\n\nFrom now on, Monday at 10:30\n\n"]),
-            (b"A: b\n\nFrom now on each Mon at 10:30\n", [b"A: b\n\nFrom now on each Mon at 10:30\n"]),
-            (b"A: b\n\nFrom a Mon, 1 Jan 2024 00:00:00 +0000\nC: d\n", [b"A: b\n\n", b"C: d\n"]),
-            (b"From a Mon Jan 1 00:00\n\0broken\nA: b\n", [b"\0broken\nA: b\n"]),
-        ]:
-            found = list(mail.split(archive.splitlines(True)))
-            self.assertEqual([raw for _, raw in found], messages, archive)
-            for begin, raw in found:
-                self.assertEqual(archive[begin : begin + len(raw)], raw)
-
-    def message(self, head, body):
-        line_end = b"\r\n" if b"\r\n" in head else b"\n"
-        return next(mail.documents([("", head + 2 * line_end + body)])).load()
-
-    def test_messages(self):
-        html = b"Subject: h\nContent-Type: text/html"
-        for head, body, title, text in [
-            (b"broken\nSubject: a\nline\nContent-Type: text/html", b"<p>b", "a", "b"),
-            (b"Subject: plain", b"text", "plain", "text"),
-            (b"Subject: folded\n  line", b"", "folded line", ""),
-            (b"Subject: =?utf-8?q?caf=C3=A9?= =?iso-8859-1?q?_stra=DFe?=", b"", "caf\u00e9 stra\u00dfe", ""),
-            (b"Subject: 8-bit caf\xc3\xa9", b"caf\xc3\xa9", "8-bit caf\u00e9", "caf\u00e9"),
-            (b"Subject: 8-bit stra\xdfe", b"stra\xdfe", "8-bit stra\u00dfe", "stra\u00dfe"),
-            (b"Subject: =?no-such?q?a=FF?= b", b"", "a\u00ff b", ""),
-            (b"Subject: =?utf-8?b?a?=", b"", "=?utf-8?b?a?=", ""),
-            (b"Subject: caf\xc3\xa9 =?utf-8?q?=C3=A9?=", b"", "caf\u00e9 \u00e9", ""),
-            (b"Subject: =?utf-8?q?=C3=A9?= \\ud800 C:\\users", b"", "\u00e9 \\ud800 C:\\users", ""),
-            (b"Subject: =?utf-8?q?caf=C3?=\n =?UTF-8?q?=A9?= =?utf-8?b?YQ?=", b"", "caf\u00e9a", ""),
-            (b"Subject: =?utf-8?b?a?=, =?utf-8?q?b?=  c =?utf-8*en?q?what??= =??q?d?=", b"", "=?utf-8?b?a?=, b  c what?d", ""),
-            (b"Subject: =?unicode_escape?q?a=5Cud800?= =?x?q", b"", "a\ufffd =?x?q", ""),
-            (b"Subject: x\nContent-Type: text/plain; charset=unicode_escape", b"a \\ud800", "x", "a \ufffd"),
-            (b"Subject: x\nContent-Type: text/plain; charset=iso646-us", b"caf\xc3\xa9", "x", "caf\u00e9"),
-            (b"X-Subject: x\nbroken line\n\0", b"text", "", "text"),
-            (b"Subject: x\nContent-Type: text/plain; charset=no-such", b"caf\xc3\xa9", "x", "caf\u00e9"),
-            (b"Subject: x\nContent-Type: text/plain; charset=hex", b"abc", "x", "abc"),
-            (b'Subject: x\nContent-Type: text/plain; charset="a\0b"', b"abc", "x", "abc"),
-            (b"Subject: x\nContent-Type: nonsense", b"abc", "x", "abc"),
-            (b"Subject: x\nContent-Type: text/plain\nContent-Transfer-Encoding: base64", b"Y2Fmw6k", "x", "caf\u00e9"),
-            (b"Subject: x\nContent-Type: multipart/mixed", b"no parts", "x", "no parts"),
-            (html, b"<p>red <b>fox</b><script>no</script> &amp; dog", "h", "red fox & dog"),
-            (html, b"<![unknown[ x ]]> fox", "h", "fox"),
-            (html, b"<b>H</b>ello wo<span>rld</span><o:p></o:p>s<br>a<td>b</td>c<P>d", "h", "Hello worlds a b c d"),
-            (html, b"<style><!-- p > a {} --></style><!--[if !mso]><!-->red<!--<![endif]--> <!-->fox<!-- no > dog", "h", "red fox dog"),
-            (html, b"a < b <!DOCTYPE x>c<?xml y?>d &lt;e&gt; &#" + b"9" * 5000 + b"; f <a href", "h", "a < b cd <e> \ufffd f <a href"),
-            (html, b"<style><!-- p{} </style><body>hello<!--[if mso]>x<![endif]--> fox<script>if(a<!b){c()}</SCRIPT> dog", "h", "hello fox dog"),
-            (html, b"<meta charset='windows-1251'>\xec\xe8\xf0", "h", "\u043c\u0438\u0440"),
-            (html, b"<META content=\"text/html; charset = koi8-r\">\xcd\xc9\xd2", "h", "\u043c\u0438\u0440"),
-            (html + b"; charset=us-ascii", b"<meta charset=koi8-r>\xcd\xc9\xd2", "h", "\u043c\u0438\u0440"),
-            (html + b"; charset=utf-8", b"<meta charset=koi8-r>\xc3\xa9", "h", "\u00e9"),
-            (html, b"<meta charset=utf-16>\xc3\xa9", "h", "\u00e9"),
-            (b"Subject: x", b"<meta charset=koi8-r>\xe9", "x", "<meta charset=koi8-r>\u00e9"),
-            (b"Subject: a\0b", b"c\0d", "a\0b", "c\0d"),
-        ]:
-            found = self.message(head, body)
-            crlf = self.message(head.replace(b"\n", b"\r\n"), body)
-            self.assertEqual((crlf.title, crlf.body), (found.title, found.body), head)
-            self.assertEqual((found.title, spaced(found.body)), (title, text), head)
-
-    def test_no_message_takes_long(self):
-        many = 1 << 20
-        for raw in (
-            b"Message-ID: <a" + b" " * many + b"b>\n\nx",
-            b"Subject: x" + b"\n y" * many + b"\n\nx",
-            b"Subject: " + b"=?a?q?x" * many + b"\n\nx",
-            b"Date: 1 Jan " + b"9" * many + b"\n\nx",
-            b"Subject: x\n\nFrom" + b" Mon Jan" * many + b"\n\nx",
-            b"Content-Type: text/plain; charset=punycode\n\n" + b"a" * many + b"-" + b"b" * many,
-            b"Content-Type: text/plain; x=\"" + b";" * many + b"\n\nx",
-            b"Content-Type: multipart/mixed; boundary=b\n\n" + b"--b \n" * (many // 16) + b"--b" + b" " * many,
-            *(b"Content-Type: text/html\n\n" + tag * (many // 4) for tag in (b"<a ", b"<!--", b"<!-- >", b"<![if >", b"<a b='>", b"</a ", b"<")),
-            b"Content-Type: text/html\n\n&#" + b"9" * many + b";<script>" + b"</script" * many + b">",
-        ):
-            with self.subTest(raw=raw[:40]), processor_time(60):
-                for document in mail.documents((str(begin), part) for begin, part in mail.split(raw.splitlines(True))):
-                    self.assertNotEqual(document.load(), None)
-
-    def test_parts(self):
-        def several(kind, *pieces, said=b""):
-            boundary = b"%d" % len(b"".join(pieces))
-            lines = b"".join(b"--%s\n%s\n" % (boundary, piece) for piece in pieces)
-            return b"Content-Type: multipart/%s; boundary=%s%s\n\nno\n%s--%s--\nno\n" % (kind, boundary, said, lines, boundary)
-
-        plain, html = b"Content-Type: text/plain\n\nfirst", b"Content-Type: text/html\n\n<p>fox"
-        blank, footer = b"Content-Type: text/plain; charset=utf-8\n\n \xc2\xa0\n", b"\nfooter"
-        file = b"Content-Disposition: attachment; filename=a.txt\n\nattached"
-        image = b"Content-Type: image/png\n\nno"
-        calendar = b"Content-Type: text/calendar\n\nBEGIN:VCALENDAR"
-        inner = b"Content-Type: message/rfc822; name=b.eml\n\nSubject: no\n\ninner"
-        odd_name = b"Content-Type: text/csv\nContent-Disposition: attachment; filename*=utf-8''a.csv; filename*0=b.csv\n\n1,2"
-        no_name = b"Content-Type: text/csv\nContent-Disposition: attachment; filename*=\"a\0b''c.csv\"\n\n1,2"
-        # What is odd in one part hides no other one, nor its own text.
-        for raw, text, head in [
-            (several(b"mixed", plain, html, file, image, b"\nlast"), "first fox last", "Attachment: a.txt"),
-            (several(b"alternative", plain, html), "first", ""),
-            (several(b"alternative", blank, html), "fox", ""),
-            (several(b"alternative", html), "fox", ""),
-            (several(b"alternative", plain, several(b"related", html, image)), "first", ""),
-            (several(b"alternative", several(b"mixed", blank, plain), several(b"alternative", html)), "first", ""),
-            (several(b"alternative", plain, html, calendar), "first BEGIN:VCALENDAR", ""),
-            (several(b"alternative", plain, b"Content-Type: text/x-amp-html\n\n<p>no", html), "first", ""),
-            (several(b"mixed", html, footer), "fox footer", ""),
-            (several(b"mixed", several(b"alternative", plain, html), several(b"alternative", blank, html)), "first fox", ""),
-            (several(b"mixed", html, calendar), "fox BEGIN:VCALENDAR", ""),
-            (several(b"mixed", html, inner), "fox inner", "Attachment: b.eml"),
-            (several(b"digest", b"\nSubject: no\n\none", b"\nFrom a\nSubject: no\n\ntwo"), "one two", ""),
-            (b"Content-Type: text/plain; name=report.txt\n\nreport", "report", "Attachment: report.txt"),
-            (several(b"mixed", b"no header\n\nat all", footer), "no header at all footer", ""),
-            (several(b"mixed", b"\nFrom here\non", b"no", said=b"; type=\"a;b\""), "From here on no", ""),
-            (several(b"mixed", plain, odd_name), "first 1,2", ""),
-            (several(b"mixed", plain, no_name), "first 1,2", ""),
-            (several(b"mixed", plain, b"Content-Type: text/plain; charset*=a; charset*0=b\n\nlast"), "first last", ""),
-            (several(b"mixed", plain, b"Content-Transfer-Encoding: uuencode\n\nbegin 644 a\n#\xff\n"), "first begin 644 a #\u00ff", ""),
-            (b"Content-Type: multipart/mixed; boundary*=c; boundary*0=d\n\n--c\n\ne", "--c e", ""),
-            (b"Content-Type: multipart/mixed; boundary=b\n\nno part", "no part", ""),
-            (b"Content-Type: multipart/mixed; boundary=b\n\n--b\n\none\n--bb\nx--b\n--b \t\n\nnot closed", "one --bb x--b not closed", ""),
-            (b'Content-Type: application/x; name="caf\xc3\xa9.x"\n\nno', "", "Attachment: caf\u00e9.x"),
-        ]:
-            for line_end in (b"\n", b"\r\n"):
-                found = next(mail.documents([("", b"Subject: x\n".replace(b"\n", line_end) + raw.replace(b"\n", line_end))])).load()
-                self.assertEqual((found.title, " ".join(found.body.split()), found.head), ("x", text, head), raw)
-
-    def test_parts_in_parts(self):
-        """Without an end to them, as deep as they go, and in as much room as the message has."""
-        for levels in (10, 700, 900):
-            inner = b"Content-Type: message/rfc822\n\n" * levels
-            self.assertIn("fox", mail.Message(b"Subject: deep\n" + inner + b"Subject: x\n\nfox").text().body.split(), levels)
-        deep = b"".join(b"Content-Type: multipart/mixed; boundary=b%d\n\n--b%d\n\ntext %d\n--b%d\n" % ((level,) * 4) for level in range(5000))
-        text = mail.Message(b"Subject: deep\n" + deep).text()
-        self.assertLessEqual({str(level) for level in range(5000)}, set(text.body.split()))
-
-    def test_heads(self):
-        for head, lines in [
-            (b"From: Ann <ann@x>\nTo: bob@x,\n\tcid@x\nCc: =?utf-8?q?D=C3=A9d=C3=A9?= <d@x>\nTo: eve@x", 
-             ["From: Ann <ann@x>", "To: bob@x, cid@x", "To: eve@x", "Cc: D\u00e9d\u00e9 <d@x>"]),
-            (b"Date: Mon, 1 Jan 2024 23:30:00 -0800", ["Date: 2024-01-01 20240101"]),
-            (b"Date: 3 Feb 99 1:2", ["Date: 1999-02-03 19990203"]),
-            (b"Date: 30 Feb 2024 10:00:00 +0000", ["Date: 30 Feb 2024 10:00:00 +0000"]),
-            (b"Date: yesterday", ["Date: yesterday"]),
-            (b"From: \xff", ["From: \u00ff"]),
-            (b"Content-Type: image/png; name*=utf-8''na%C3%AFve.png", ["Attachment: na\u00efve.png"]),
-            (b'Content-Type: image/png; name="=?utf-8?q?na=C3=AFve.png?="', ["Attachment: na\u00efve.png"]),
-            (b"", []),
-        ]:
-            found = self.message(b"Subject: x\n" + head, b"")
-            self.assertEqual(found.head.split("\n") if found.head else [], lines, head)
-
-    def test_archives(self):
-        deep = b"Message-ID: <deep@x>\n"
-        for level in range(1200):
-            deep += b"Content-Type: multipart/mixed; boundary=b%d\n\n--b%d\n" % (level, level)
-        attached = base64.encodebytes(os.urandom(15_000_000))
-        archive = b"\n".join(
-            [
-                LETTER % (b"one", b"one", b"one"),
-                LETTER % (b"two", b"two", b"two"),
-                LETTER % (b"one", b"one", b"one"),
-                LETTER % (b"one", b"one", b"another"),
-                b"From a@b Mon Jan  1 00:00:00 2024\nSubject: without\n\nname\n",
-                b"From a@b Mon Jan  1 00:00:00 2024\nMessage-ID: <with blanks @x>\nSubject: odd \xff\n\nname\n",
-                b"From a@b Mon Jan  1 00:00:00 2024\n\nno header\n",
-                b"From a@b Mon Jan  1 00:00:00 2024\n" + deep,
-                b"From a@b Mon Jan  1 00:00:00 2024\nMessage-ID: <long@x>\n\n" + b" ".join(b"%d" % i for i in range(1_000_000)) + b"\n",
-                b"From a@b Mon Jan  1 00:00:00 2024\nMessage-ID: <big@x>\nContent-Type: multipart/mixed; boundary=b\n\n"
-                b"--b\n\nthe text of it\n--b\nContent-Type: image/png\nContent-Transfer-Encoding: base64\n\n"
-                + attached
-                + b"--b--\n",
-                LETTER % (b"last", b"last", b"last"),
-            ]
-        )
-        path = self.write("mail.mbox", archive)
-        said = self.run_script("mail", self.path, path, expect=1)
-        self.assertIn("11 documents: 9 added, 1 repeated, 1 refused\n", said)
-        self.assertIn("it has no header", said)
-        self.assertIn(f"1 document in parts, since a line has {LINE_LIMIT:,} bytes", said)
-        self.assertEqual(self.whole("long@x")[0], " ".join(map(str, range(1_000_000))))
-        bodies = self.bodies()
-        self.assertEqual(bodies["one@x"], "the text of one")
-        self.assertEqual(bodies["one@x~2"], "the text of another")
-        self.assertEqual(bodies[name_of("with blanks @x")], "name")
-        self.assertEqual(bodies["last@x"], "the text of last")
-        self.assertEqual(bodies["big@x"], "the text of it")
-        self.assertEqual(len([name for name in bodies if name.startswith("message-")]), 1)
-
-    def test_what_a_mail_reader_notes_is_no_change(self):
-        archive = LETTER % (b"one", b"one", b"one") + b"\n" + LETTER % (b"two", b"two", b"two")
-        path = self.write("mail.mbox", archive)
-        self.assertIn("2 added", self.run_script("mail", self.path, path))
-        self.write("mail.mbox", archive.replace(b"Message-ID: <two@x>\n", b"Status: RO\nMessage-ID: <two@x>\nX-Status: F\n"))
-        self.assertIn("0 added, 2 unchanged", self.run_script("mail", self.path, path))
-        self.write("mail.mbox", archive.replace(b"text of two", b"text of too"))
-        self.assertIn("0 added, 1 changed, 1 unchanged", self.run_script("mail", self.path, path))
-        for noted in (b"X-IMAPbase: 1 7", b"X-IMAP: 1 7", b"X-UIDL: a", b"x-gmail-labels : Inbox", b"X-Evolution: 0a-00", b"X-Label: b"):
-            for raw in (b"Subject: x\n\ny", b"Message-ID: <a>\nSubject: x\n\ny"):
-                message, marked = mail.Message(raw), mail.Message(noted + b"\n" + raw)
-                self.assertEqual((marked.wanted, marked.stamp), (message.wanted, message.stamp), noted)
-        # Nor is an empty line at the end, before a message that has come.
-        with open(path, "ab") as file:
-            file.write(b"\n" + LETTER % (b"new", b"new", b"new"))
-        self.assertIn("1 added, 2 unchanged", self.run_script("mail", self.path, path))
-
-    def test_maildir(self):
-        box = mailbox.Maildir(self.at("Mail"), create=True)
-        keys = [box.add(b"Message-ID: <%d@x>\nSubject: s\n\ntext %d\n" % (number, number)) for number in range(5)]
-        box.add_folder("sent").add(b"Message-ID: <sent@x>\n\nsent\n")
-        self.assertIn("6 documents: 6 added", self.run_script("mail", self.path, self.at("Mail")))
-        # Read, and so moved and renamed.
-        message = box[keys[2]]
-        message.set_subdir("cur")
-        message.set_flags("S")
-        box[keys[2]] = message
-        self.assertIn("0 added, 6 unchanged", self.run_script("mail", self.path, self.at("Mail")))
-        self.assertEqual(self.bodies()["sent@x"], "sent")
-        # One message alone.
-        path = self.write("one.eml", b"Message-ID: <eml@x>\nSubject: s\n\nFrom now on text\n")
-        self.assertIn("1 added", self.run_script("mail", self.path, path))
-        self.assertEqual(self.bodies()["eml@x"], "From now on text")
-
-    def test_what_moves_in_a_maildir_meanwhile(self):
-        files = ("new/a", "new/b", "cur/c:2,", ".sub/cur/d:2,", ".sub/new/e")
-        moves = [
-            ("new/b", "cur/b:2,S"),
-            ("cur/c:2,", "cur/c:2,S"),
-            ("cur/c:2,", ".sub/cur/c:2,"),
-            (".sub/cur/d:2,", "cur/d:2,"),
-            (".sub/new/e", ".sub/cur/e:2,"),
-            ("new/b", None),
-        ]
-        read = mail.content_of
-        for number, ((old, new), moment) in enumerate(itertools.product(moves, range(len(files)))):
-            for name in files:
-                self.write(f"{number}/{name}", name[-1] if name[-1] != "," else name[-4])
-            top = self.at(str(number))
-            reads = []
-
-            def content_of(path):
-                reads.append(path)
-                if len(reads) == moment + 1:
-                    os.rename(os.path.join(top, old), os.path.join(top, new) if new else self.at("gone"))
-                return read(path)
-
-            with mock.patch.object(mail, "content_of", content_of):
-                found = dict(mail.maildir(top))
-            wanted = {b"a", b"b", b"c", b"d", b"e"} - ({b"b"} if new is None else set())
-            self.assertLessEqual(wanted, set(found.values()), (old, new, moment))
-            self.assertLessEqual(set(found.values()), {b"a", b"b", b"c", b"d", b"e"}, (old, new, moment))
-
-    def test_what_of_a_maildir_cannot_be_seen(self):
-        message = b"Message-ID: <%d@x>\n\ntext\n"
-        self.write("Mail/cur/1:2,", message % 1)
-        self.write("Mail/new/2", message % 2)
-        self.write("elsewhere/cur/3", message % 3)
-        os.symlink("nowhere", self.at("Mail/cur/4:2,S"))
-        os.symlink(self.at("elsewhere"), self.at("Mail/.linked"))
-        said = self.run_script("mail", "--prune", "--verbose", self.path, self.at("Mail"), expect=1)
-        self.assertIn("4 documents: 2 added, 1 passed over, 1 refused\n", said)
-        self.assertIn("refused cur/4:2,S: No such file or directory\n", said)
-        self.assertIn("passed over '.linked': a link to a folder\n", said)
-        self.assertIn("nothing was pruned", said)
-        # The folder of messages itself, with the slash that a shell puts behind it.
-        self.assertIn("1 added", self.run_script("mail", self.at("y.alta"), self.at("Mail/new/")))
-        # A folder that is no Maildir is no empty one.
-        self.write("boxes/inbox", LETTER % (b"one", b"one", b"one"))
-        for words in ((), ("--prune",)):
-            said = self.run_script("mail", *words, self.at("z.alta"), self.at("boxes"), expect=1)
-            self.assertIn("refused .: no Maildir: it has no folder cur or new\n", said)
-
-
 class Packages(Case):
     def test_stanzas(self):
         path = self.write(
@@ -1234,7 +929,8 @@ class Packages(Case):
         )
         self.assertIn("4 documents: 3 added, 1 repeated", self.run_script("packages", self.path, path))
         self.assertEqual(
-            self.stored(), {"a": (1, "first", "more text"), "b": (2, "caf\u00e9 \ufffd", ""), "a~2": (3, "other", "")}
+            self.stored(),
+            {"a": (1, "a - first", "more text"), "b": (2, "b - caf\u00e9 \ufffd", ""), "a~2": (3, "a - other", "")},
         )
         with open(path) as file:
             self.assertIn("0 added, 3 unchanged, 1 repeated", self.run_script("packages", self.path, stdin=file))
@@ -1401,10 +1097,10 @@ class Find(Case):
                 "    Mail/new/N: s",
                 "    the quick letter",
                 "4 dog",
-                "    status: a dog",
+                "    status: dog - a dog",
                 "    quick and lazy",
                 "5 fox",
-                "    status: x",
+                "    status: fox - x",
                 "    quick",
                 "found 5",
                 "",

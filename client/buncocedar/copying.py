@@ -15,7 +15,7 @@ from typing import List, NamedTuple
 
 from .beside import making
 from .fileformat import HALF, HEAD, SLOT, Unusable, read_root
-from .imports.stamps import stamps_path
+from .imports.stamps import JOURNAL, Records, stamps_path
 from .links import connected
 
 CHUNK = 1 << 20
@@ -156,6 +156,10 @@ def put_written(write, old, new, mode):
 
 def copy_stamps(old, new):
     """Copies a file of stamps to the disk, and tells whether there is one."""
+    if os.path.exists(old + JOURNAL):
+        # An import was stopped while it wrote rows: the file alone is half of what counts.
+        Records(old).copy(new)
+        return True
     try:
         with open(old, "rb") as source, open(new, "wb") as target:
             shutil.copyfileobj(source, target, CHUNK)

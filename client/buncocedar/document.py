@@ -2,26 +2,36 @@
 
 from __future__ import annotations
 
-from typing import Callable, NamedTuple
+from typing import Callable, NamedTuple, Tuple
 
 TEXT_LIMIT = 33_554_432  # bytes of a text that are looked at
 
 
 class Text(NamedTuple):
-    """What of a document goes into its lines: the head into each. `beyond` is how many bytes of its text were not looked at."""
+    """What of a document goes into its lines: the head into each. `beyond` is how many bytes of its text were not looked at.
+
+    `terms` are words that find it and are shown nowhere, as `from:ann` and `ext:c`; they go into each line, too.
+    """
 
     title: str
     body: str
     beyond: int = 0
     head: str = ""
+    terms: str = ""
 
 
 class Document(NamedTuple):
-    """A document to be brought in. `load` is called only where it is new or has changed, and raises `Unfit` or `OSError`.
+    """A document to be brought in. `load` is called only where it is new or has changed, and raises `Unfit` or `OSError`. Where it can
+    be pickled, with what it answers, it may be called in another process.
 
     `place` is where it stands in its source, as `stamps.Place` spells it. `exact` says whether documents of one name and stamp
     are the same: where it is false, as of the size and time of a file, they are where they stand at one place of one source.
-    `former` is the stamp that an older version gave it, where that was another one.
+    `former` are the stamps that older versions gave it, where those were others. `mark` is the size and time of the file that
+    the document is, by which the next run knows it without reading it. `notes` are words for what its archive notes of it:
+    a document with other notes is brought in again, and is the same. `size` is about how many bytes `load` reads.
+
+    Where `known` is given, nothing has changed at the place of the document of that name, and `load` answers the `Document` that
+    is read there.
     """
 
     wanted: str
@@ -29,7 +39,11 @@ class Document(NamedTuple):
     load: Callable[[], Text]
     place: str = ""
     exact: bool = True
-    former: bytes = b""
+    former: Tuple[bytes, ...] = ()
+    mark: str = ""
+    notes: str = ""
+    known: str = ""
+    size: int = 0
 
 
 class Unfit(Exception):

@@ -21,8 +21,9 @@ from ..shards import ShardedIndex, is_address, open_index
 from .engine import Import, Options
 from .interrupts import Interrupts
 from .log import Log, several
+from .making import Makers
 from .parts import parts_of
-from .stamps import Source, Stamps, name_of, numbered, stamps_path
+from .stamps import Known, Stamps, name_of, numbered, stamps_path
 
 MEMORY = "/dev/shm"
 BESIDE = "buncocedar-"  # how the name of a folder in memory begins, in which an index is made
@@ -35,17 +36,23 @@ STOPPED = 3
 
 
 def bring(tool, path, source, documents, options=Options(), fast=False):
-    """Brings the documents of a source into the index at the path, and answers the exit status."""
+    """Brings the documents of a source into the index at the path, and answers the exit status.
+
+    The documents are an iterable, or a call that answers one where it is given what is known of the source, a `stamps.Known`.
+    """
+    return bring_all(tool, path, [(source, documents)], options, fast)
+
+
+def bring_all(tool, path, sources, options=Options(), fast=False):
+    """Brings the documents of several sources into the index at the path, one source behind the other, as `bring` does of one."""
     log = Log(tool)
     try:
         if path == "-":
-            return write_lines(log, documents, options.whole)
+            return write_lines(log, documents_of(sources), options.whole)
         if fast and (is_address(path) or os.path.islink(path) or os.path.exists(path) and os.path.getsize(path)):
             log.say(f"{path} is there already, so it is added to where it stands")
             fast = False
-        if fast:
-            return bring_beside(log, path, source, documents, options)
-        return bring_into(log, path, source, documents, options)
+        return (bring_beside if fast else bring_into)(log, path, sources, options)
     except (Error, OSError, Unusable) as error:
         log.say(f"stopped: {error}" if path == "-" else error if str(error).startswith(path) else f"{path}: {error}")
         return STOPPED
@@ -54,10 +61,19 @@ def bring(tool, path, source, documents, options=Options(), fast=False):
         return 128 + signal.SIGINT
 
 
-def bring_into(log, path, source, documents, options):
+def documents_of(sources):
+    """The documents of all sources, of which nothing is known."""
+    for _, documents in sources:
+        yield from documents(Known()) if callable(documents) else documents
+
+
+def bring_into(log, path, sources, options):
     with contextlib.suppress(OSError):
         tell_left(log, os.path.dirname(os.path.abspath(path)), PREFIX)
+    statuses = []
     with contextlib.ExitStack() as stack:
+        makers = Makers(1 if options.may_pause else options.jobs)
+        stack.callback(makers.close)
         index = stack.enter_context(open_index(path, create=True, patience=options.wait, on_wait=log.say))
         if isinstance(index, ShardedIndex):
             # The shards fill one by one, and each has its levels joined when it has taken much.
@@ -67,10 +83,25 @@ def bring_into(log, path, source, documents, options):
         stamps = Stamps(stamps_path(path), options.wait, lambda why: log.say(f"{path}: {why}, and is waited for"))
         stack.callback(stamps.close)
         interrupts = stack.enter_context(Interrupts(index))
-        work = Import(index, stamps, source, options, log)
-        work.run(documents, interrupts)
-        done = work.summary
-        done.report()
+        for number, (source, documents) in enumerate(sources, 1):
+            if len(sources) > 1:
+                log.say(f"{source.path}:")
+            work = Import(index, stamps, source, options, log, makers)
+            work.run(documents(work.known) if callable(documents) else documents, interrupts)
+            statuses.append(ended(work.summary, index, interrupts, number == len(sources)))
+            if statuses[-1] not in (0, SOME_REFUSED):
+                break
+    return max(statuses)
+
+
+def ended(done, index, interrupts, is_last):
+    """Says what was done of a source, behind the program's end where it is the last one, and answers the exit status."""
+    if is_last or done.end is not None or done.interrupted or done.fault:
+        try:
+            index.close()
+        except Error as end:
+            done.end = done.end or end
+    done.report()
     if done.interrupted:
         return 128 + interrupts.signal
     if done.end is not None or done.fault or done.lost:
@@ -78,7 +109,7 @@ def bring_into(log, path, source, documents, options):
     return SOME_REFUSED if done.counts["refused"] else 0
 
 
-def bring_beside(log, path, source, documents, options):
+def bring_beside(log, path, sources, options):
     """Makes the index in memory, where there are no syncs to wait for, and moves what came of it into place, without holes."""
     # Whether anything can be made at the place is known before all of the source is read.
     with making(os.path.dirname(os.path.abspath(path))):
@@ -86,7 +117,7 @@ def bring_beside(log, path, source, documents, options):
     folder = memory_folder()
     tell_left(log, folder, BESIDE)
     with making(folder, BESIDE) as beside:
-        status = bring_into(log, beside, source, documents, options)
+        status = bring_into(log, beside, sources, options)
         try:
             with open(beside, "rb") as built:
                 with contextlib.suppress(FileNotFoundError):
@@ -163,18 +194,26 @@ def parser_of(tool, describe, *names):
     )
     parser.add_argument("index", metavar="INDEX", help="made where there is none; - writes the add lines to standard output")
     for name, about in names:
-        parser.add_argument(name.lower().strip("[]"), metavar=name.strip("[]"), nargs="?" if "[" in name else None, help=about)
+        word = name.strip("[] .")
+        parser.add_argument(word.lower(), metavar=word, nargs="?" if "[" in name else "+" if ".." in name else None, help=about)
     parser.add_argument("--prune", action="store_true", help="delete what earlier runs brought in and is gone from the source")
     parser.add_argument("--moved-from", metavar="OLD", help="where the source stood when it was brought in before")
     parser.add_argument("--fast", action="store_true", help="make a new index in memory, and move it into place at the end")
     parser.add_argument("--whole", action="store_true", help="refuse what is too long for a line, in place of parts")
     parser.add_argument("--no-merge", action="store_true", help=f"do not join the levels when there are {LEVELS}")
     parser.add_argument("--verbose", action="store_true", help="list what is passed over, since it is no text")
+    parser.add_argument("--jobs", metavar="N", type=number_of_processes, help="how many processes read; else as many as processors")
     parser.add_argument("--wait", metavar="SECONDS", type=float, default=10.0, help="how long to wait for who has it open")
     return parser
 
 
-def bring_as(tool, words, path, documents, file="", may_pause=False):
-    """Brings documents in as the words of a script say; the path is that of their source, the others as in `Options`."""
-    options = Options(words.whole, words.prune, not words.no_merge, words.verbose, words.wait, words.moved_from, file, may_pause)
-    return bring(tool, words.index, Source(tool, path), documents, options, words.fast)
+def number_of_processes(text):
+    if not text.isdecimal() or int(text) < 1:
+        raise argparse.ArgumentTypeError(f"{text} is no number of processes")
+    return int(text)
+
+
+def bring_as(tool, words, sources, file="", form="", may_pause=False):
+    """Brings documents in as the words of a script say; the sources are as in `bring_all`, and the others as in `Options`."""
+    options = Options(words.whole, words.prune, not words.no_merge, words.verbose, words.wait, words.moved_from, file, may_pause, form, words.jobs)
+    return bring_all(tool, words.index, sources, options, words.fast)

@@ -25,13 +25,14 @@ import os
 from collections import deque
 from typing import NamedTuple, Optional
 
-from ..document import TEXT_LIMIT, NoText, Unfit, Unseen
+from ..document import TEXT_LIMIT
 from ..errors import Error, Refused
 from ..shards import NotAnswered, ShardedIndex
 from ..fileformat import HALF, LEVELS, Unusable, level_count
 from .log import several
-from .naming import Naming, content_of, stands
-from .parts import parts_of, size
+from .making import Job, Makers
+from .naming import GONE, Naming, stands
+from .parts import size
 from .stamps import Place, Stamp, below, is_numbered, name_of, part_name, part_of, place_of, stem_of
 from .summary import Summary
 
@@ -55,6 +56,8 @@ class Sent(NamedTuple):
     added: list
     gone: list
     content: str = ""
+    mark: str = ""
+    notes: str = ""
 
     def is_answered(self):
         """Replies come in the order of their lines, so the last one is there when all are."""
@@ -85,7 +88,8 @@ class Options(NamedTuple):
     """How an import is to be done, as its words say. `moved_from` is where its folder or archive stood before.
 
     `file` is the one that is read, where all files are one source, and empty where that is no file. `may_pause` says that the source
-    may give nothing for a while, as a pipe: what it gave before is sent meanwhile.
+    may give nothing for a while, as a pipe: what it gave before is sent meanwhile. `form` changes where the same source gives other
+    documents: what was brought in in another form is read again. `jobs` is how many processes read.
     """
 
     whole: bool = False
@@ -96,12 +100,14 @@ class Options(NamedTuple):
     moved_from: Optional[str] = None
     file: str = ""
     may_pause: bool = False
+    form: str = ""
+    jobs: Optional[int] = None
 
 
 class Import:
     """One run over the documents of a source: which of them are sent, and what is kept of the replies."""
 
-    def __init__(self, index, stamps, source, options, log):
+    def __init__(self, index, stamps, source, options, log, makers=None):
         self.index = index
         self.stamps = stamps
         self.options = options
@@ -118,7 +124,12 @@ class Import:
         self.parts = {}  # of each stem the number of its last part
         for name in self.live:
             self.note_part(name)
-        self.naming = Naming(stamps, self.live, self.source, self.sources)
+        self.naming = Naming(stamps, self.live, self.source, self.sources, options.form)
+        self.known = self.naming.known
+        self.makers = makers or Makers(1)
+        self.chosen = {}  # of each name whose lines are being made its `Chosen` and its document
+        self.anew = set()  # names whose documents were sent, or are to be
+        self.repeated = set()  # places of documents that stand elsewhere, too
         self.summary = Summary(log, options.verbose, options.prune)
         self.sent = deque()
         self.is_proposed = isinstance(index, ShardedIndex)  # or is one already
@@ -158,51 +169,87 @@ class Import:
 
     def take(self, document):
         """Brings one document in, or only counts it where the program has ended."""
-        name, stamp, kind, moved = self.naming.choose(document)
+        if document.known:
+            if self.is_passed(document):
+                return
+            document = document.load()
+            if document is None:
+                return
+        chosen = self.naming.choose(document)
+        name, _, kind, moved = chosen
         if moved is not None:
-            self.stamps.put({name: moved})
+            self.move(name, moved)
         if kind in ("unchanged", "repeated"):
             self.summary.counts[kind] += 1
+            self.note_repeat(document, name, kind)
         elif self.summary.end is not None:
             self.summary.leave(name)
         else:
-            try:
-                text = document.load()
-                content = "" if document.exact else content_of(text)
-                self.send(Sent(name, kind, stamp, document.place, 0, 0, [], [], content), text)
-            except NoText as why:
-                self.summary.pass_over(document.wanted, why)
-            except Unseen as fault:
-                self.summary.unseen = True
-                self.summary.refuse(name, document.wanted, fault)
-            except (Unfit, Refused) as fault:
-                self.summary.refuse(name, document.wanted, fault)
-            except OSError as error:
-                self.summary.refuse(name, document.wanted, error.strerror or error)
-            except Exception as error:
-                # Whatever a reader of bad input may raise: it is said, and ends nothing.
-                self.summary.refuse(name, document.wanted, f"it could not be read: {error!r}")
+            self.anew.add(name)
+            self.chosen[name] = (chosen, document)
+            self.makers.put(Job(name, document.load, not document.exact, self.options.whole), document.size)
 
-    def send(self, sent, text):
+    def is_passed(self, document):
+        """Counts a document that stands where it stood, unread, where its name still is its own; tells whether it is."""
+        name = document.known
+        stamp = self.stamps.of.get(name)
+        if stamp is None or name in self.anew:
+            return False
+        kind = "repeated" if name in self.naming.used else "unchanged"
+        self.naming.used[name] = stamp.stamp
+        if kind == "unchanged" and (stamp.source, stamp.place) != (self.source, document.place):
+            self.move(name, stamp._replace(source=self.source, place=document.place, mark=self.known.places[document.place][1]))
+        self.summary.counts[kind] += 1
+        self.note_repeat(document, name, kind)
+        return True
+
+    def move(self, name, moved):
+        """Writes that a document stands in another place, and, where that is another source's, that it still stands in that one."""
+        known = self.stamps.of[name]
+        if known.source not in self.sources:
+            self.stamps.put_repeat(known.source, known.place, name, known.mark)
+        self.stamps.put({name: moved})
+
+    def note_repeat(self, document, name, kind):
+        """Notes where else a document stands, so that the next run need not read it there."""
+        if kind == "repeated":
+            mark = self.known.marked(document.mark) or self.known.places.get(document.place, ("", ""))[1]
+            self.repeated.add(document.place)
+            if self.known.places.get(document.place) != (name, mark):
+                self.stamps.put_repeat(self.source, document.place, name, mark)
+
+    def send_made(self, all_of_them=False):
+        """Sends the documents whose lines are made, all that were taken or those that are there."""
+        for job, made in self.makers.ready(all_of_them):
+            chosen, document = self.chosen.pop(job.name)
+            if self.summary.end is not None:
+                self.summary.leave(job.name)
+            elif isinstance(made, Exception):
+                self.summary.note_fault(job.name, document.wanted, made)
+            else:
+                mark = self.known.marked(document.mark)
+                sent = Sent(job.name, chosen.kind, chosen.stamp, document.place, 0, 0, [], [], made.content, mark, document.notes)
+                self.send(sent, made, document)
+                self.collect()
+
+    def send(self, sent, made, document):
         """Sends a document. What is refused here is refused before anything of its older text is replaced."""
-        if self.options.whole and text.beyond:
-            raise Unfit(f"its text has more than {TEXT_LIMIT:,} bytes")
-        parts = parts_of(sent.name, text, self.options.whole)
-        gone = self.standing(sent.name, but=[name for name, _, _ in parts])
-        sent = sent._replace(parts=len(parts), older=len(gone))
+        gone = self.standing(sent.name, but=[name for name, _, _ in made.parts])
+        sent = sent._replace(parts=len(made.parts), older=len(gone))
         self.sent.append(sent)
         try:
-            self.replace(sent, parts, gone)
-        except Refused:
+            self.replace(sent, made.parts, gone)
+        except Refused as fault:
             self.sent.pop()
-            raise
+            self.summary.note_fault(sent.name, document.wanted, fault)
+            return
         except Error as end:
             self.summary.end = end
             return
-        self.summary.in_parts += len(parts) > 1
-        if text.beyond:
+        self.summary.in_parts += len(made.parts) > 1
+        if made.beyond:
             self.summary.cut += 1
-            self.log.say(f"cut {sent.name}: {text.beyond:,} bytes of its text left out, behind {TEXT_LIMIT:,}")
+            self.log.say(f"cut {sent.name}: {made.beyond:,} bytes of its text left out, behind {TEXT_LIMIT:,}")
         if self.options.merge and self.levels.count > LEVELS:
             self.merge()
 
@@ -262,7 +309,7 @@ class Import:
                 self.note_what_is_stored(sent)
             if numbers:
                 self.summary.counts[sent.kind] += 1
-                stamps[sent.name] = Stamp(numbers, sent.stamp, self.source, sent.place, sent.content)
+                stamps[sent.name] = Stamp(numbers, sent.stamp, self.source, sent.place, sent.content, sent.mark, sent.notes)
         if stamps:
             self.stamps.put(stamps)
 
@@ -293,22 +340,37 @@ class Import:
         try:
             for document in interrupts.each(documents):
                 self.take(document)
-                if self.options.may_pause:
-                    # Changes wait for others, to be written together: there may be none for long.
-                    self.index.settle(0)
-                self.collect()
-                self.log.progress(lambda: self.summary.so_far(len(self.sent)))
+                if self.chosen or self.sent:
+                    self.send_made()
+                    if self.options.may_pause:
+                        # Changes wait for others, to be written together: there may be none for long.
+                        self.index.settle(0)
+                    self.collect()
+                self.log.progress(lambda: self.summary.so_far(len(self.sent) + len(self.chosen)))
                 if self.stamps.fault:
                     break
         except OSError as error:
             self.summary.fault = f"the source could not be read: {error}"
+        self.send_made(all_of_them=not (interrupts.count or self.stamps.fault))
         if not (interrupts.count or self.summary.fault or self.stamps.fault or self.summary.end):
             self.look_for_gone()
             if self.options.prune:
                 self.prune(interrupts)
+            self.note_what_was_read()
         self.finish()
         self.summary.interrupted = interrupts.count > 0
+        self.stamps.flush()
         self.summary.fault = self.summary.fault or self.stamps.fault
+
+    def note_what_was_read(self):
+        """Notes which files need not be read by the next run: those of a run in which nothing was refused."""
+        self.stamps.put({name: self.stamps.of[name]._replace(mark=GONE) for name in self.summary.gone if name in self.stamps.of})
+        if self.summary.counts["refused"] or self.sent:
+            return
+        read = set(self.known.noted)
+        stale = [place for place, (name, _) in self.known.places.items() if place not in self.repeated and place_of(place).path in read]
+        self.stamps.drop_repeats(self.source, stale)
+        self.stamps.put_marks(self.source, self.options.form, self.known.noted)
 
     def look_for_gone(self):
         """Finds what an earlier run brought in and this one did not see.
@@ -364,16 +426,25 @@ class Import:
         """Waits for the replies under way. What gets none is left; where it is stored in part, that is noted."""
         self.index.settle()
         self.collect()
-        try:
-            self.index.close()
-        except Error as end:
-            self.summary.end = self.summary.end or end
+        if self.summary.end is None and self.levels.has_much():
+            self.flush()
         if self.sent:
             self.summary.first_left = self.sent[0].name
             self.summary.is_doubtful = True
         for sent in self.sent:
             self.summary.leave(sent.name)
             self.note_what_is_stored(sent)
+
+    def flush(self):
+        """Writes the journal as a level, so that nobody who opens the index has to read it."""
+        try:
+            self.index.flush()
+            self.levels.empty()
+        except Refused:
+            # There is no room for a level: the journal has all.
+            pass
+        except Error as end:
+            self.summary.end = end
 
 
 class Levels:
@@ -386,13 +457,23 @@ class Levels:
     def __init__(self, count):
         self.count = count
         self.used = HALF  # bytes of the journal, which is taken for full where it is not known
+        self.put_bytes = 0  # of those, what this run has put in
 
     def put(self, size):
         """A line of so many bytes goes in."""
         if self.used + size + RECORD > HALF:
             self.count += 1
-            self.used = 0
+            self.empty()
         self.used += size + RECORD
+        self.put_bytes += size + RECORD
+
+    def empty(self):
+        """The journal has become a level."""
+        self.used = self.put_bytes = 0
+
+    def has_much(self):
+        """Whether this run has filled so much of the journal that it pays to make a level of that."""
+        return self.put_bytes > HALF // 8
 
 
 def levels_of(path):

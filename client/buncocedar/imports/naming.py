@@ -14,10 +14,11 @@ import functools
 import os
 from typing import NamedTuple, Optional
 
-from .stamps import FRONT_LIMIT, Place, Stamp, below, digest, is_numbered, name_of, numbered, part_name, place_of
+from .stamps import FRONT_LIMIT, Known, Place, Stamp, below, digest, is_numbered, name_of, numbered, part_name, place_of
 
 # What goes into a stamp besides the document: another one, and all documents are made anew once.
 FORM = b"parts and fields\n"
+GONE = "gone"  # the mark of a document that the last run over its source did not see
 
 
 def content_of(text):
@@ -54,14 +55,16 @@ class Naming:
     """The names of one run: `used` has those that its documents got, each with its stamp.
 
     `records` are the stamps of earlier runs, and `live` has the number of each name in the index, today's. `source` is the
-    digest of what the documents come from, and `sources` has those of the places where that stood before, too.
+    digest of what the documents come from, and `sources` has those of the places where that stood before, too. `form` is that of
+    the import: what was brought in in another form is read again.
     """
 
-    def __init__(self, records, live, source, sources):
+    def __init__(self, records, live, source, sources, form=""):
         self.records = records
         self.live = live
         self.source = source
         self.sources = sources
+        self.known = Known(form, self._known_places(), records.marks(sources, form))
         self.used = {}
         self.numbers = {}  # of a wanted name the first number that may be free, where that is not 1
         self.later = {}  # of the front of a wanted name, and a stamp, the names with a number
@@ -71,6 +74,14 @@ class Naming:
     def counts_for(self, name, stamp):
         """Whether a stamp counts: the index has all its parts."""
         return all(self.live.get(part_name(name, part)) == number for part, number in enumerate(stamp.numbers, 1))
+
+    def _known_places(self):
+        """Of each place in this source the name of the document that stands there, with its mark."""
+        places = {place: (name, mark) for place, name, mark in self.records.repeats(self.sources) if self._counting(name)}
+        for name, stamp in self.records.of.items():
+            if stamp.source in self.sources and stamp.mark != GONE and self.counts_for(name, stamp):
+                places[stamp.place] = (name, stamp.mark)
+        return places
 
     def choose(self, document):
         """What the document gets, a `Chosen`; its name is used from then on."""
@@ -87,12 +98,11 @@ class Naming:
         known = self._counting(name)
         if known is None:
             return Chosen(name, stamp, "added again" if name in self.live else "added")
-        if known.stamp != stamp:
+        if known.stamp != stamp or known.source in self.sources and known.notes != document.notes:
             return Chosen(name, stamp, "changed")
-        place = document.place or known.place
         # It has moved, or two sources have this document: its next change is this source's.
-        has_moved = (known.source, known.place) != (self.source, place)
-        return Chosen(name, stamp, "unchanged", known._replace(source=self.source, place=place) if has_moved else None)
+        now = known._replace(source=self.source, place=document.place or known.place, mark=self.known.marked(document.mark))
+        return Chosen(name, stamp, "unchanged", now if now != known else None)
 
     def _note_number(self, name, stamp):
         front, mark, number = name.rpartition("~")
@@ -147,6 +157,6 @@ class Naming:
 
     def _is_older(self, document, known):
         """Whether what has another stamp can be the document as it was before."""
-        if document.former and known.stamp == digest(FORM + document.former):
+        if any(known.stamp == digest(FORM + former) for former in document.former):
             return True
         return known.source in self.sources and (document.exact or known.place in ("", document.place))

@@ -1,15 +1,16 @@
 """Brings Debian's package descriptions into an index, from `apt-cache dumpavail` or a file as /var/lib/dpkg/status.
 
-The name is the package's name, the title the description's first line, the body the rest of the description. A package that
+The name is the package's name, the title that name and the description's first line, the body the rest of the description. A package that
 stands in several files is one document, of the file that was read last. --prune deletes what is gone from the file that is read.
 """
 
+import functools
 import os
 import sys
 
 from ..document import Document, Text, Unfit
 from .bringing import BAD_USE, bring_as, parser_of
-from .stamps import Place
+from .stamps import Place, Source
 
 
 def stanzas(source):
@@ -44,7 +45,7 @@ def text_of(fields):
     description = fields.get("Description") or fields.get("Description-en")
     if not (fields.get("Package") and description):
         return None
-    return Text(description[0], "\n".join("" if line == "." else line for line in description[1:]))
+    return Text(f"{fields['Package'][0]} - {description[0]}", "\n".join("" if line == "." else line for line in description[1:]))
 
 
 def packages(source, path=None):
@@ -54,7 +55,7 @@ def packages(source, path=None):
         if text is not None:
             stamp = f"{text.title}\n{' '.join(text.body.splitlines())}".encode()
             place = Place(path, begin, length).spelled() if path else ""
-            yield Document(fields["Package"][0], stamp, lambda text=text: text, place)
+            yield Document(fields["Package"][0], stamp, functools.partial(Text, *text), place)
 
 
 def read(found):
@@ -87,4 +88,4 @@ def main(arguments=None):
     path = os.path.realpath(options.file) if options.file and os.path.isfile(options.file) else None
     with source:
         # All files of descriptions are one source, since a package may stand in each.
-        return bring_as("packages", options, "packages", packages(source, path), path or "", may_pause=path is None)
+        return bring_as("packages", options, [(Source("packages", "packages"), packages(source, path))], path or "", may_pause=path is None)

@@ -6,18 +6,22 @@
 # breaks the rule on names. One document over several lines would be another format and another machine.
 
 import re
+import unicodedata
 
 from ..document import Unfit
 from ..lines import LINE_LIMIT, TITLE_ROOM
 from ..texts import fitted, one_line
+from .inner import inner_words
 from .stamps import part_name
 
 OVERLAP = 100  # words of a part that the next one has too
 
 
 def spaced(text):
-    """The text with one space for each run of blanks and line ends: more words fit in a line so."""
-    return re.sub("[ \t\r\n\f\v]+", " ", text).strip(" ")
+    """The text with one space for each run of blanks and line ends, since more words fit in a line so, and with composed letters
+    (NFC), since a query has them.
+    """
+    return unicodedata.normalize("NFC", re.sub("[ \t\r\n\f\v]+", " ", text).strip(" "))
 
 
 def character_start(data, at):
@@ -39,15 +43,27 @@ def overlap_start(data, least, end):
 
 
 def pieces(text, room):
-    """The text in pieces of at most so many bytes, cut at a blank where there is one, each with the last words before it."""
+    """The text in pieces, cut at a blank where there is one, each with the last words before it.
+
+    Each has at most so many bytes with the words inside of its words.
+    """
     data = text.encode()
     begin = 0
-    while len(data) - begin > room:
-        blank = data.rfind(b" ", begin + room // 2, begin + room + 1)
-        end = blank if blank > 0 else character_start(data, begin + room)
+    while begin < len(data):
+        reach = begin + room_for(data[begin : begin + room], room)
+        if len(data) <= reach:
+            break
+        blank = data.rfind(b" ", begin + (reach - begin) // 2, reach + 1)
+        end = blank if blank > 0 else character_start(data, reach)
         yield data[begin:end].decode()
-        begin = overlap_start(data, end - room // 4, end)
+        begin = overlap_start(data, end - (reach - begin) // 4, end)
     yield data[begin:].decode()
+
+
+def room_for(data, room):
+    """How many bytes of a text fit with the words inside of its words, which are at most twice as long."""
+    inner = len(inner_words(data.decode(errors="ignore")).encode())
+    return max(room - inner - 1, room // 3) if inner else room
 
 
 def size(text):
@@ -59,20 +75,28 @@ def joined(*texts):
     return " ".join(filter(None, texts))
 
 
+def with_inner(text):
+    """A text with the words inside of its words behind it."""
+    return joined(text, inner_words(text))
+
+
 def parts_of(name, text, whole):
     """The parts of a document, each a (name, title, body). Raises `Unfit` where `whole` asks for one and it has more."""
-    title, body, head = (one_line(spaced(part)) for part in (text.title, text.body, text.head))
+    title, body, head, terms = (one_line(spaced(part)) for part in (text.title, text.body, text.head, text.terms))
+    title = with_inner(title)
+    front = joined(with_inner(head), terms)
     limit, room = LINE_LIMIT, TITLE_ROOM
-    length = len(f"add {name}\t{title}\t{joined(head, body)}".encode())
+    line = joined(front, with_inner(body))
+    length = len(f"add {name}\t{title}\t{line}".encode())
     if length <= limit:
-        return [(name, title, joined(head, body))]
+        return [(name, title, line)]
     if whole:
         raise Unfit(f"its line has {length:,} bytes where {limit:,} may be")
-    if len(head.encode()) > room:
-        head, body = "", joined(head, body)
+    if len(front.encode()) > room:
+        front, body = "", joined(head, terms, body)
     short = fitted(title, room)
     if short != title:
         body = joined(title, body)
-    front = len(f"add \t{short}\t{head} ".encode()) + 64
-    found = enumerate(pieces(body, limit - front), 1)
-    return [(part_name(name, number), short, joined(head, piece)) for number, piece in found]
+    used = len(f"add \t{short}\t{front} ".encode()) + 64
+    found = enumerate(pieces(body, limit - used), 1)
+    return [(part_name(name, number), short, joined(front, with_inner(piece))) for number, piece in found]

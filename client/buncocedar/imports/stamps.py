@@ -1,14 +1,15 @@
 """What an import keeps beside an index: of each document a stamp, and where it was found.
 
-The file of stamps has a line for each document that the index has answered:
+The stamps are a database of SQLite. A row of `stamps` is a document that the index has answered:
 
-    NAME NUMBERS STAMP SOURCE [PLACE [CONTENT]]
+- `numbers` are those of its parts, with commas between; `stamp` is a digest that changes when the document does;
+- `source` is the digest of what it came from, and `place` where in it: a path below it, and `@BEGIN+LENGTH` where it is a piece
+  of a file, spelled as in URLs;
+- `content` is the digest of its text, where `stamp` is of the size and time of a file;
+- `mark` is the form of the import with the size and time of the document's own file, and `notes` what its archive notes of it.
 
-NUMBERS are those of its parts, with commas between; STAMP is a digest that changes when the document does; SOURCE is the
-digest of what it came from, and PLACE where in it: a path below it, and `@BEGIN+LENGTH` where it is a piece of a file. CONTENT
-is the digest of its text, where STAMP is of the size and time of a file. A line `= SOURCE KIND PATH` says what a source is, and
-a line `- NAME` that a document is gone. Paths are written as in URLs. A line that was torn by a stop is passed over; the last
-line of a name or of a source counts.
+`sources` says what a source is, `repeats` where else a document stands, and `files` which files of many documents were read to their end.
+An older version had a text of lines, which is read, and replaced by the next import.
 
 Who writes the file holds its lock (`flock`), from before it is read: of two imports into one index the second waits.
 """
@@ -18,18 +19,28 @@ Who writes the file holds its lock (`flock`), from before it is read: of two imp
 # anew, a copy, or a lost file of stamps costs time and loses nothing.
 #
 # A stamp says where its document was found, so that `bunco find` walks over no archive to show it, and an archive that has
-# moved is one line. A piece of an mbox is a place and a length. The next run corrects it where a mail program has taken
+# moved is one row. A piece of an mbox is a place and a length. The next run corrects it where a mail program has taken
 # messages out before it; until then another text may be shown.
 #
 # `FORM` is part of each stamp: when an import begins to make other lines of the same document, all documents count as changed
-# once. Messages have one more of their own, so that files and packages are not brought in anew with them.
+# once. Each kind has one more of its own, so that files and packages are not brought in anew with messages.
+#
+# Rows are written some times a second, and at the end: a process that is killed leaves some documents without a stamp, which
+# the next run stores again. The file is read by others meanwhile, so it has a journal beside it only while rows are written.
 #
 # The lock is that of the stamps and not of the index: behind a server two imports would give one name to two documents, and
-# write each over the other's. No file is made for it, and an import that is killed leaves no lock.
+# write each over the other's. No file is made for it, and an import that is killed leaves no lock. SQLite's own locks are of
+# another kind (`fcntl`). A process loses those where it closes any handle of the file, so the handle of the lock is closed last.
 
+from __future__ import annotations
+
+import contextlib
+import functools
 import hashlib
 import os
 import re
+import sqlite3
+import threading
 import time
 from typing import NamedTuple, Optional
 from urllib.parse import quote, unquote_to_bytes
@@ -41,14 +52,29 @@ NAME_LIMIT = 64
 STEM_LIMIT = 58  # characters of a name before the end of a part, as `~p2`
 FRONT_LIMIT = 56  # characters with which all names of documents begin that want the same one
 SECONDS_OF_SILENCE = 1.0  # in a wait for another import
+SECONDS_BETWEEN_WRITES = 0.3
+SECONDS_FOR_ROWS = 60.0  # how long rows wait for who reads the file
+JOURNAL = "-journal"  # how the name of the file ends that SQLite has beside its own
+MAGIC = b"SQLite format 3\0"
+TABLES = """
+CREATE TABLE IF NOT EXISTS sources (source TEXT PRIMARY KEY, kind TEXT NOT NULL, path TEXT NOT NULL) WITHOUT ROWID;
+CREATE TABLE IF NOT EXISTS stamps (name TEXT PRIMARY KEY, numbers TEXT NOT NULL, stamp TEXT NOT NULL, source TEXT NOT NULL,
+    place TEXT NOT NULL, content TEXT NOT NULL, mark TEXT NOT NULL, notes TEXT NOT NULL) WITHOUT ROWID;
+CREATE INDEX IF NOT EXISTS in_parts ON stamps (name) WHERE instr(numbers, ',') > 0;
+CREATE TABLE IF NOT EXISTS repeats (source TEXT, place TEXT, name TEXT NOT NULL, mark TEXT NOT NULL, PRIMARY KEY (source, place)) WITHOUT ROWID;
+CREATE TABLE IF NOT EXISTS files (source TEXT, path TEXT, form TEXT NOT NULL, size INTEGER NOT NULL, mtime INTEGER NOT NULL,
+    front INTEGER NOT NULL, digest TEXT NOT NULL, before INTEGER NOT NULL, count INTEGER NOT NULL, PRIMARY KEY (source, path)) WITHOUT ROWID;
+"""
+COLUMNS = "numbers, stamp, source, place, content, mark, notes"
 
 _NAME = "[!-~]{1,64}"
-_STAMP = re.compile(f"({_NAME}) ([1-9][0-9]*(?:,[1-9][0-9]*)*) ([0-9a-f]{{32}}) ([0-9a-f]{{8}})(?: (?=[!-~])([!-?A-~]*(?:@[0-9]+\\+[0-9]+)?)(?: ([0-9a-f]{{32}}))?)?".encode())
-_SOURCE = re.compile(b"= ([0-9a-f]{8}) ([a-z]+) ([!-~]+)")
-_GONE = re.compile(f"- ({_NAME})".encode())
 _PART = re.compile("(.+)~p([1-9][0-9]*)", re.DOTALL)
 _NUMBERED = re.compile(".+~([1-9][0-9]*)", re.DOTALL)
 _PLACE = re.compile(r"([^@]*)(?:@([0-9]+)\+([0-9]+))?")
+# The lines of an older version.
+_STAMP = re.compile(f"({_NAME}) ([1-9][0-9]*(?:,[1-9][0-9]*)*) ([0-9a-f]{{32}}) ([0-9a-f]{{8}})(?: (?=[!-~])([!-?A-~]*(?:@[0-9]+\\+[0-9]+)?)(?: ([0-9a-f]{{32}}))?)?".encode())
+_SOURCE = re.compile(b"= ([0-9a-f]{8}) ([a-z]+) ([!-~]+)")
+_GONE = re.compile(f"- ({_NAME})".encode())
 
 
 def digest(data, size=16):
@@ -126,7 +152,8 @@ def below(top, place):
 class Stamp(NamedTuple):
     """Of a document: the numbers of its parts, the digest of what it was made of, its source, and its place there.
 
-    `content` is the digest of its text, where the other one says nothing of that; empty where it is not known.
+    `content` is the digest of its text, where the other one says nothing of that; empty where it is not known. `mark` is empty
+    where the document has no file of its own.
     """
 
     numbers: tuple
@@ -134,6 +161,8 @@ class Stamp(NamedTuple):
     source: str
     place: str = ""
     content: str = ""
+    mark: str = ""
+    notes: str = ""
 
 
 class Source(NamedTuple):
@@ -151,44 +180,140 @@ class Found(NamedTuple):
     begin: Optional[int]
     length: int
     stamp: str
+    notes: str = ""
+
+
+class FileMark(NamedTuple):
+    """By what a file of many documents is known again: its size and time, and the digest of its front, up to the last document.
+
+    `before` is how many documents stood before that, and `count` how many in all.
+    """
+
+    size: int
+    mtime: int
+    front: int
+    digest: str
+    before: int
+    count: int
+
+    def has(self, found):
+        """Whether the file that has this `os.stat_result` is as it was."""
+        return (self.size, self.mtime) == (found.st_size, found.st_mtime_ns)
+
+
+class Known:
+    """What of a source need not be read again; `noted` has the marks of the files that this run has read to their end.
+
+    `places` says of each place the name of the document that was found there, and its mark.
+    """
+
+    def __init__(self, form="", places=None, marks=None):
+        self.form = form
+        self.places = places or {}
+        self.marks = marks or {}
+        self.noted = {}
+
+    def marked(self, mark):
+        """A mark as it is kept: behind the form in which an import makes its documents."""
+        return f"{self.form} {mark}" if mark else ""
+
+    def name_at(self, place, mark):
+        """The name of the document whose file is as it was, None where it is not."""
+        name, known = self.places.get(place, (None, ""))
+        return name if known and known == self.marked(mark) else None
+
+    def file(self, path):
+        """The mark of a file of many documents, None where it was not read to its end in this form."""
+        return self.marks.get(path)
+
+    @functools.cached_property
+    def _pieces(self):
+        found = {}
+        for place, (name, _) in self.places.items():
+            path, begin, _ = place_of(place)
+            if begin is not None:
+                found.setdefault(path, []).append((begin, place, name))
+        return found
+
+    def pieces(self, path):
+        """Of each document in a file where it begins, its place and its name, in their order."""
+        return sorted(self._pieces.get(path, ()))
+
+    def note(self, path, mark):
+        self.noted[path] = mark
 
 
 class Records:
-    """What a file of stamps says: `of` each name its `Stamp`, and `sources` by their digests. `lines` is how many it has."""
+    """What the stamps beside an index say; `sources` are the sources by their digests.
+
+    Raises `OSError` where the file cannot be read.
+    """
 
     def __init__(self, path):
         self.path = path
-        self.of = {}
-        self.sources = {}
+        self._turn = threading.RLock()
+        with self._said():
+            self.base = self._opened(path)
+            self.sources = {source: Source(kind, spoken(at)) for source, kind, at in self.base.execute("SELECT * FROM sources")}
+
+    def _opened(self, path):
         try:
             with open(path, "rb") as file:
-                lines = file.read().split(b"\n")
+                is_base = file.read(len(MAGIC)) == MAGIC
         except FileNotFoundError:
-            lines = [b""]
-        self.torn = bool(lines.pop())
-        self.lines = len(lines)
-        for line in lines:
-            self._take(line)
+            is_base = None
+        if is_base:
+            return sqlite3.connect(f"file:{quote(os.fsencode(path))}?mode=ro", uri=True, timeout=SECONDS_FOR_ROWS, check_same_thread=False)
+        base = sqlite3.connect(":memory:", check_same_thread=False)
+        base.executescript(TABLES)
+        if is_base is False:
+            take_lines(base, path)
+        return base
 
-    def _take(self, line):
-        match = _STAMP.fullmatch(line)
-        if match:
-            name, numbers, *rest = (part.decode() if part else "" for part in match.groups())
-            self.of[name] = Stamp(tuple(map(int, numbers.split(","))), *rest)
-        elif _SOURCE.fullmatch(line):
-            source, kind, path = line[2:].decode().split(" ")
-            self.sources[source] = Source(kind, os.fsdecode(unquote_to_bytes(path)))
-        elif _GONE.fullmatch(line):
-            self.of.pop(line[2:].decode(), None)
+    def __del__(self):
+        if hasattr(self, "base"):
+            self.base.close()
+
+    @contextlib.contextmanager
+    def _said(self):
+        """Lets one thread ask at a time, and says what SQLite says as an `OSError`."""
+        try:
+            with self._turn:
+                yield
+        except sqlite3.Error as error:
+            raise OSError(f"the stamps {self.path} can't be read: {error}; without them the next import brings in everything again") from None
+
+    @functools.cached_property
+    def of(self):
+        """Of each name its stamp."""
+        with self._said():
+            return {name: stamp_of(row) for name, *row in self.base.execute(f"SELECT name, {COLUMNS} FROM stamps")}
+
+    def stamp(self, name):
+        """The stamp of a name, None where it has none; without the others being read."""
+        with self._said():
+            row = self.base.execute(f"SELECT {COLUMNS} FROM stamps WHERE name = ?", (name,)).fetchone()
+        return row and stamp_of(row)
 
     def found(self, name, moved=None):
         """Where the document of this name was found, or None; `moved` is the path of its source today."""
-        stamp = self.of.get(name)
+        stamp = self.stamp(name)
         source = self.sources.get(stamp.source) if stamp else None
         if source is None or not stamp.place:
             return None
         place = place_of(stamp.place)
-        return Found(source.kind, below(moved or source.path, place), place.begin, place.length, stamp.stamp)
+        return Found(source.kind, below(moved or source.path, place), place.begin, place.length, stamp.stamp, stamp.notes)
+
+    def in_parts(self):
+        """The names of the documents that are stored in parts."""
+        with self._said():
+            return [name for name, in self.base.execute("SELECT name FROM stamps WHERE instr(numbers, ',') > 0")]
+
+    def name_of_number(self, number):
+        """The name of the document that has this number, or a part with it; None where none has."""
+        with self._said():
+            row = self.base.execute("SELECT name FROM stamps WHERE instr(',' || numbers || ',', ?) > 0", (f",{number},",)).fetchone()
+        return row and row[0]
 
     def archive(self, stamp):
         """The path of what a document came from, None where it is not known: a file or folder that was brought in."""
@@ -197,6 +322,21 @@ class Records:
             return source and source.path
         # One source of many files, each of which was brought in alone.
         return below(source.path, place_of(stamp.place))
+
+    def repeats(self, sources):
+        """Where else documents of these sources stand: of each place the name and the mark."""
+        rows = self.base.execute("SELECT source, place, name, mark FROM repeats")
+        return [(place, name, mark) for source, place, name, mark in rows if source in sources]
+
+    def marks(self, sources, form):
+        """The marks of the files of these sources that were read to their end in this form."""
+        rows = self.base.execute("SELECT source, path, size, mtime, front, digest, before, count FROM files WHERE form = ?", (form,))
+        return {spoken(path): FileMark(*mark) for source, path, *mark in rows if source in sources}
+
+    def copy(self, path):
+        """Writes the stamps to a new file, to the disk."""
+        with self._said(), contextlib.closing(sqlite3.connect(path)) as target:
+            self.base.backup(target)
 
 
 class Stamps(Records):
@@ -209,23 +349,32 @@ class Stamps(Records):
 
     def __init__(self, path, patience=10.0, on_wait=lambda why: None):
         self.file = locked_file(path, patience, on_wait)
-        super().__init__(path)
         self.fault = None
-        if self.lines > 2 * len(self.of) + len(self.sources) + 1000:
-            self.rewrite()
-        elif self.torn:
-            self.write("\n")
+        self.waiting = []  # of (statement, row)
+        self.written = time.monotonic()
+        super().__init__(path)
 
-    def rewrite(self):
-        """Writes the file anew without the lines that count no more, locked before it has its name."""
-        fresh = self.path + ".new"
-        with open(fresh, "w", encoding="ascii") as file:
-            file.writelines(source_line(digest, source) for digest, source in self.sources.items())
-            file.writelines(stamp_line(name, stamp) for name, stamp in self.of.items())
-            file.flush()
-            os.fsync(file.fileno())
+    def _opened(self, path):
+        if os.path.getsize(path) and not self._is_base():
+            self._take_over(path)
+        base = sqlite3.connect(path, isolation_level=None, timeout=SECONDS_FOR_ROWS)
+        base.execute("PRAGMA synchronous = NORMAL")
+        base.executescript(TABLES)
+        return base
+
+    def _is_base(self):
+        return os.pread(self.file, len(MAGIC), 0) == MAGIC
+
+    def _take_over(self, path):
+        """Puts a database in the place of an older version's lines, locked before it has that name."""
+        fresh = f"{path}.new"
+        with contextlib.suppress(FileNotFoundError):
+            os.remove(fresh)
+        with contextlib.closing(super()._opened(path)) as lines, contextlib.closing(sqlite3.connect(fresh)) as base:
+            lines.backup(base)
         before, self.file = self.file, locked_file(fresh)
-        os.replace(fresh, self.path)
+        os.chmod(fresh, os.fstat(before).st_mode & 0o777)
+        os.replace(fresh, path)
         os.close(before)
 
     def source(self, kind, path):
@@ -236,31 +385,89 @@ class Stamps(Records):
             known = digest(f"{known} {kind} {path}".encode(errors="surrogatepass"), 4)
         if known not in self.sources:
             self.sources[known] = wanted
-            self.write(source_line(known, wanted))
+            self._write("INSERT INTO sources VALUES (?, ?, ?)", [(known, kind, quote(os.fsencode(path)))])
         return known
 
     def put(self, stamps):
         """Writes the stamps of some names."""
         self.of.update(stamps)
-        self.write("".join(stamp_line(name, stamp) for name, stamp in stamps.items()))
+        self._write("INSERT OR REPLACE INTO stamps VALUES (?, ?, ?, ?, ?, ?, ?, ?)", [(name, *row_of(stamp)) for name, stamp in stamps.items()])
+
+    def put_repeat(self, source, place, name, mark):
+        """Writes where else a document stands."""
+        self._write("INSERT OR REPLACE INTO repeats VALUES (?, ?, ?, ?)", [(source, place, name, mark)])
+
+    def drop_repeats(self, source, places):
+        """Writes that no other document stands at these places any more."""
+        self._write("DELETE FROM repeats WHERE source = ? AND place = ?", [(source, place) for place in places])
+
+    def put_marks(self, source, form, marks):
+        """Writes the marks of files that were read to their end."""
+        rows = [(source, quote(os.fsencode(path)), form, *mark) for path, mark in marks.items()]
+        self._write("INSERT OR REPLACE INTO files VALUES (?, ?, ?, ?, ?, ?, ?, ?, ?)", rows)
 
     def drop(self, names):
         """Writes that these names are gone."""
         for name in names:
             del self.of[name]
-        self.write("".join(f"- {name}\n" for name in names))
+        self._write("DELETE FROM stamps WHERE name = ?", [(name,) for name in names])
 
-    def write(self, text):
-        data = text.encode()
+    def _write(self, statement, rows):
+        self.waiting += [(statement, row) for row in rows]
+        if time.monotonic() - self.written > SECONDS_BETWEEN_WRITES:
+            self.flush()
+
+    def flush(self):
+        """Writes what waits."""
+        rows, self.waiting = self.waiting, []
         try:
-            while data and self.fault is None:
-                data = data[os.write(self.file, data) :]
-        except OSError as error:
-            self.fault = f"the stamps could not be written to {self.path}: {error.strerror}"
+            if rows and self.fault is None:
+                self.base.execute("BEGIN IMMEDIATE")
+                for statement, row in rows:
+                    self.base.execute(statement, row)
+                self.base.execute("COMMIT")
+        except sqlite3.Error as error:
+            self.fault = f"the stamps could not be written to {self.path}: {error}"
+            with contextlib.suppress(sqlite3.Error):
+                self.base.execute("ROLLBACK")
+        self.written = time.monotonic()
 
     def close(self):
-        os.fsync(self.file)
+        self.flush()
+        self.base.close()
         os.close(self.file)
+
+
+def stamp_of(row):
+    numbers, *rest = row
+    return Stamp(tuple(map(int, numbers.split(","))), *rest)
+
+
+def row_of(stamp):
+    return (",".join(map(str, stamp.numbers)), *stamp[1:-1], stamp.notes.encode(errors="replace").decode())
+
+
+def spoken(path):
+    """The path that is spelled as in URLs."""
+    return os.fsdecode(unquote_to_bytes(path))
+
+
+def take_lines(base, path):
+    """Takes the lines of an older version: of a name or a source the last counts, and one that a stop has torn is passed over."""
+    with open(path, "rb") as file:
+        lines = file.read().split(b"\n")[:-1]
+    stamps = {}
+    for line in lines:
+        match = _STAMP.fullmatch(line)
+        if match:
+            name, *rest = (part.decode() if part else "" for part in match.groups())
+            stamps[name] = (*rest, "", "")
+        elif _SOURCE.fullmatch(line):
+            base.execute("INSERT OR REPLACE INTO sources VALUES (?, ?, ?)", line[2:].decode().split(" "))
+        elif _GONE.fullmatch(line):
+            stamps.pop(line[2:].decode(), None)
+    base.executemany("INSERT INTO stamps VALUES (?, ?, ?, ?, ?, ?, ?, ?)", ((name, *row) for name, row in stamps.items()))
+    base.commit()
 
 
 def locked_file(path, patience=0.0, on_wait=lambda why: None):
@@ -272,7 +479,7 @@ def locked_file(path, patience=0.0, on_wait=lambda why: None):
     begun = time.monotonic()
     is_said = False
     while True:
-        handle = os.open(path, os.O_WRONLY | os.O_CREAT | os.O_APPEND, 0o666)
+        handle = os.open(path, os.O_RDWR | os.O_CREAT, 0o666)
         # Who had it before may have written it anew.
         if lock(handle) and is_at(handle, path):
             return handle
@@ -284,16 +491,6 @@ def locked_file(path, patience=0.0, on_wait=lambda why: None):
             is_said = True
             on_wait(why)
         time.sleep(0.05)
-
-
-def stamp_line(name, stamp):
-    place = f" {stamp.place}" if stamp.place else ""
-    content = f" {stamp.content}" if stamp.place and stamp.content else ""
-    return f"{name} {','.join(map(str, stamp.numbers))} {stamp.stamp} {stamp.source}{place}{content}\n"
-
-
-def source_line(known, source):
-    return f"= {known} {source.kind} {quote(os.fsencode(source.path))}\n"
 
 
 def stamps_path(index):

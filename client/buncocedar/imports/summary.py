@@ -4,6 +4,7 @@ from __future__ import annotations
 
 import time
 
+from ..document import NoText, Unseen
 from ..errors import Full
 from ..lines import LINE_LIMIT
 from .log import several
@@ -40,6 +41,14 @@ class Summary:
     def refuse(self, name, wanted, why):
         self.counts["refused"] += 1
         self.log.say(f"refused {name if name == wanted else ascii(wanted)}: {why}")
+
+    def note_fault(self, name, wanted, fault):
+        """Counts a document whose text could not be had or sent: as passed over where it is none, and else as refused."""
+        if isinstance(fault, NoText):
+            self.pass_over(wanted, fault)
+            return
+        self.unseen = self.unseen or isinstance(fault, Unseen)
+        self.refuse(name, wanted, fault.strerror or fault if isinstance(fault, OSError) else fault)
 
     def pass_over(self, wanted, why):
         self.counts["passed over"] += 1

@@ -103,13 +103,14 @@ def put_stamps(folder: str, new: str, shards: int) -> None:
     if not os.path.exists(stamps_path(folder)):
         return
     old = Records(stamps_path(folder))
+    old.copy(stamps_path(new))
     stamps = Stamps(stamps_path(new))
     try:
-        stamps.sources = dict(old.sources)
-        stamps.of = {
-            name: stamp._replace(numbers=tuple(number_of(own_number(number)[0], shard_of(name, shards)) for number in stamp.numbers))
-            for name, stamp in old.of.items()
-        }
-        stamps.rewrite()
+        stamps.put(
+            {
+                name: stamp._replace(numbers=tuple(number_of(own_number(number)[0], shard_of(name, shards)) for number in stamp.numbers))
+                for name, stamp in old.of.items()
+            }
+        )
     finally:
         stamps.close()

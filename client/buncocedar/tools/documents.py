@@ -11,7 +11,8 @@ import re
 import tempfile
 
 from ..document import Text, Unfit
-from ..imports import folder, mail, packages
+from ..imports import archives, folder, mail, messages, packages
+from ..imports.packed import is_packed
 from ..imports.stamps import STEM_LIMIT, Records, part_of, stamps_path, stem_of
 from ..terminal import edited
 
@@ -30,8 +31,7 @@ class Places:
     def records(self):
         if self.read is None:
             self.read = Records(self.path)
-            many = (name for name, stamp in self.read.of.items() if len(stamp.numbers) > 1 and len(name) > STEM_LIMIT)
-            self.long_stems = {stem_of(name): name for name in many}
+            self.long_stems = {stem_of(name): name for name in self.read.in_parts() if len(name) > STEM_LIMIT}
         return self.read
 
     def document(self, name):
@@ -39,21 +39,21 @@ class Places:
         part = part_of(name)
         if part is None:
             return name
-        known = self.records().of
+        records = self.records()
         whole = self.long_stems.get(part[0], part[0])
-        return whole if whole in known and len(known[whole].numbers) >= part[1] else name
+        stamp = records.stamp(whole)
+        return whole if stamp is not None and len(stamp.numbers) >= part[1] else name
 
     def named(self, word):
         """The name of the document that has this name or number."""
         name = self.document(word)
-        if name in self.records().of or not word.isdecimal():
+        if not word.isdecimal() or self.records().stamp(name):
             return name
-        numbers = {number: name for name, stamp in self.records().of.items() for number in stamp.numbers}
-        return numbers.get(int(word), word)
+        return self.records().name_of_number(int(word)) or word
 
     def is_in_parts(self, name):
         """Whether the document of this name is stored in parts."""
-        stamp = self.records().of.get(name)
+        stamp = self.records().stamp(name)
         return stamp is not None and len(stamp.numbers) > 1
 
     def moment(self, name):
@@ -62,13 +62,13 @@ class Places:
         return None if found is None else moment_at(found)
 
     def thread(self, name):
-        """The word that the messages of a document's thread have in their heads, empty where it has none."""
+        """The word by which the messages of a document's thread are found, empty where it has none."""
         found = self.found(name)
         text = text_at(found) if found is not None and found.kind == "mail" else None
         return thread_of(text) if isinstance(text, Text) else ""
 
     def has_parts(self):
-        return any(len(stamp.numbers) > 1 for stamp in self.records().of.values())
+        return bool(self.records().in_parts())
 
     def found(self, name):
         return self.records().found(name, self.moved)
@@ -88,8 +88,8 @@ THREAD = re.compile(r"(?<!\S)thread:[!-~]+")
 
 
 def thread_of(text):
-    """The word that the messages of one thread have in their heads, empty where a text has none."""
-    found = THREAD.search(text.head)
+    """The word by which the messages of one thread are found, empty where a text has none."""
+    found = THREAD.search(text.terms)
     return found[0] if found else ""
 
 
@@ -99,8 +99,8 @@ def moment_at(found):
         if found.kind == "folder":
             return os.stat(found.path).st_mtime
         if found.kind == "mail":
-            fields, _ = mail.parted(mail.raw_at(found))
-            date = email.utils.parsedate_tz(mail.decoded(mail.value(fields, b"date"))[: mail.DATE_LIMIT])
+            fields, _ = messages.parted(archives.raw_at(found))
+            date = email.utils.parsedate_tz(messages.decoded(messages.value(fields, b"date"))[: mail.DATE_LIMIT])
             return None if date is None else email.utils.mktime_tz(date)
     except (OSError, ValueError, OverflowError, TypeError, IndexError):
         pass
@@ -155,7 +155,7 @@ def edit(name, found, text, line):
 
     A file of a folder is opened where it stands; anything else as a copy to be read, of which no change goes anywhere.
     """
-    if found.kind == "folder" and not found.path.endswith(".gz"):
+    if found.kind == "folder" and not is_packed(found.path):
         return edited(found.path, line)
     with reading_copy(name, "\n".join(whole_lines(found, text)) + "\n") as path:
         return edited(path, line)

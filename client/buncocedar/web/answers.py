@@ -11,7 +11,7 @@ from typing import Any, Dict, Iterator, List, NamedTuple, Optional, Tuple
 
 from ..document import Text
 from ..errors import CAUSES, QueryFault, Refused
-from ..imports import mail
+from ..imports import archives, messages
 from ..imports.stamps import Found, name_of
 from ..replies import MOST_BEST
 from ..tools.documents import Places, text_at
@@ -155,16 +155,16 @@ def day_of(values: Dict[str, List[str]]) -> str:
 
 
 def thread_of(text: Text) -> str:
-    """The word that the messages of one thread have in their heads, empty where a text has none."""
-    found = THREAD.search(text.head)
+    """The word that the messages of one thread are found by, empty where a text has none."""
+    found = THREAD.search(text.terms)
     return found[0] if found else ""
 
 
 def named_before(raw: bytes) -> List[str]:
     """The Message-IDs that a message says it answers, each once, by its References and In-Reply-To (RFC 5322, section 3.6.4)."""
-    fields, _ = mail.parted(raw)
-    said = b" ".join([*mail.values(fields, b"references"), *mail.values(fields, b"in-reply-to")])
-    return list(dict.fromkeys(mail.decoded(one) for one in IDENTIFIER.findall(said)))[:MOST_LINKED]
+    fields, _ = messages.parted(raw)
+    said = b" ".join([*messages.values(fields, b"references"), *messages.values(fields, b"in-reply-to")])
+    return list(dict.fromkeys(messages.decoded(one) for one in IDENTIFIER.findall(said)))[:MOST_LINKED]
 
 
 class LastRows:
@@ -324,7 +324,7 @@ class Library:
     def _linked(self, found: Found) -> Iterator[Link]:
         """The messages that a message names as those before it."""
         places = self.places()
-        for wanted in named_before(mail.raw_at(found)):
+        for wanted in named_before(archives.raw_at(found)):
             name = name_of(wanted)
             if places.found(name) is not None:
                 yield Link(name, wanted)

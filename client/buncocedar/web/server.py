@@ -20,7 +20,7 @@ from urllib.parse import parse_qs, urlsplit
 
 from .. import __version__
 from ..document import TEXT_LIMIT
-from ..imports.mail import raw_at
+from ..imports.archives import raw_at
 from . import pages
 from .answers import Fault, Library, NotThere
 from .questions import Busy

@@ -1,0 +1,312 @@
+"""Mail archives: the messages of an mbox, a Maildir, a folder of files, or one file, and where in it each stands."""
+
+# A Maildir is listed until nothing in it is new, a few times at most: who reads mail meanwhile moves and renames messages,
+# and `--prune` would delete what is in no list.
+#
+# A folder that has no `cur` and no `new` is walked: each file is an mbox or a message by its first lines, as MH, Thunderbird
+# and mutt keep them, and anything else is passed over.
+#
+# A message of a Maildir never changes under its name, and an mbox mostly grows. So what was brought in before is not read
+# again: a file by its size and time, and of an mbox the front up to its last message by its digest.
+
+import functools
+import hashlib
+import itertools
+import os
+import re
+import stat
+from typing import NamedTuple
+
+from ..document import NoText, Unfit, Unseen
+from .packed import FAULTS, is_packed, opened
+from .stamps import FileMark, Place
+
+DATED = re.compile(
+    rb"From .* (?:Mon|Tue|Wed|Thu|Fri|Sat|Sun)\b.{0,9}\b(?:Jan|Feb|Mar|Apr|May|Jun|Jul|Aug|Sep|Oct|Nov|Dec)\b.{0,24}\d:\d\d"
+)
+FIELD = re.compile(rb"([!-9;-~]+)[ \t]*:")
+# What a header begins with, as a line of a text hardly does.
+FIRST = re.compile(
+    rb"(?i)(Bcc|Cc|Date|Delivered-To|Envelope-To|From|In-Reply-To|Message-ID|MIME-Version|Newsgroups|Received|References|"
+    rb"Reply-To|Return-Path|Sender|Subject|To|(ARC|Content|DKIM|List|Resent|X)-[!-9;-~]+)[ \t]*:"
+)
+LOOKS = 4  # times that a Maildir is listed at most
+HEAD_LOOK = 8_192  # bytes of a file by which it is a message, an mbox, or none
+CHUNK = 1 << 20
+MAILDIR = ("cur", "new")
+
+
+class Entry(NamedTuple):
+    """A message of an archive: where it stands, as `stamps.Place` spells it, and its bytes or why there are none.
+
+    `mark` is the size and time of its file, where it has one of its own. `name` is that of the document that was made of it
+    before, where nothing of it has changed; `raw` is a call then, that reads it.
+    """
+
+    place: str
+    raw: object
+    mark: str = ""
+    name: str = ""
+
+
+# --- An mbox.
+
+
+def split(lines):
+    """The messages of an mbox, each with the place of its first byte; what stands before the first one is given as one too.
+
+    A message begins behind a line `From ` where that has a date, or where a field that begins headers is next. Without an empty
+    line before it, it has to have both.
+    """
+    message = []
+    begin = at = 0
+    blank = True
+    lines = itertools.chain(lines, [b""])
+    line = next(lines)
+    for following in lines:
+        at += len(line)
+        if line.startswith(b"From ") and is_beginning(line, following, blank):
+            if message:
+                yield begin, b"".join(message)
+            begin, message = at, []
+        else:
+            message.append(line)
+        blank = not line.strip()
+        line = following
+    if message:
+        yield begin, b"".join(message)
+
+
+def is_beginning(line, following, blank):
+    """Whether a line `From ` begins a message; `blank` says that an empty line stands before it."""
+    has_date, has_field = DATED.match(line), FIRST.match(following)
+    return bool(has_date or has_field) if blank else bool(has_date and has_field)
+
+
+def mbox(path, below, known):
+    """The messages of an mbox; of those that are known and stand in a front that is as it was, the names."""
+    found = os.stat(path)
+    with opened(path) as file:
+        passed, front = known_front(file, found, below, known)
+        for begin, place, name in passed:
+            yield Entry(place, functools.partial(read_piece, path, place), name=name)
+        if front is None:
+            return
+        file.seek(front)
+        last, before, count = front, len(passed), len(passed)
+        for begin, raw in split(file):
+            last, before = front + begin, count
+            count += bool(raw.strip())
+            yield Entry(Place(below, last, len(raw)).spelled(), raw)
+        if is_packed(path):
+            known.note(below, FileMark(found.st_size, found.st_mtime_ns, 0, "", 0, count))
+        else:
+            known.note(below, FileMark(found.st_size, found.st_mtime_ns, *front_of(file, last), before, count))
+
+
+def known_front(file, found, below, known):
+    """The messages of an mbox that need not be read, as `Known.pieces` gives them, and where what is to be read begins; None where
+    nothing is. They count only where all that stood there are known.
+    """
+    mark = known.file(below)
+    if mark is None:
+        return [], 0
+    pieces = known.pieces(below)
+    if mark.has(found) and len(pieces) == mark.count:
+        return pieces, None
+    in_front = [piece for piece in pieces if piece[0] < mark.front]
+    if found.st_size > mark.size and len(in_front) == mark.before and digest_of_front(file, mark.front) == mark.digest:
+        return in_front, mark.front
+    return [], 0
+
+
+def read_piece(path, place):
+    begin, length = map(int, place.rpartition("@")[2].split("+"))
+    with opened(path) as file:
+        file.seek(begin)
+        return file.read(length)
+
+
+def front_of(file, last):
+    """Where the line begins that begins the last message, and the digest of all before it."""
+    file.seek(0)
+    at = max(0, last - CHUNK)
+    file.seek(at)
+    begin = at + (file.read(last - at)[:-1].rfind(b"\n") + 1) if last else 0
+    return begin, digest_of_front(file, begin)
+
+
+def digest_of_front(file, length):
+    digest = hashlib.blake2b(digest_size=16)
+    file.seek(0)
+    while length > 0 and (data := file.read(min(CHUNK, length))):
+        digest.update(data)
+        length -= len(data)
+    return digest.hexdigest()
+
+
+# --- Folders.
+
+
+def folder(top, known):
+    """The messages of a folder and of those in it.
+
+    Who reads mail meanwhile moves and renames messages. So the folders are listed again until nothing in them is new, a few times
+    at most; what is missing then, or cannot be read, comes last.
+    """
+    met = set()
+    for _ in range(LOOKS):
+        faults, fresh = {}, set()
+        for identity, below, entries in files(top, faults):
+            if identity in met:
+                continue
+            fault = yield from without_fault(entries(os.path.join(top, below), below, known))
+            if fault is None:
+                fresh.add(identity)
+            else:
+                faults[below] = fault
+        if not fresh:
+            break
+        met |= fresh
+    for below, fault in faults.items():
+        yield Entry(Place(below).spelled(), fault)
+
+
+def without_fault(entries):
+    """Yields the messages, and answers why a part of them could not be looked at, where that is so."""
+    fault = None
+    for entry in entries:
+        if isinstance(entry.raw, Unseen):
+            fault = entry.raw
+        else:
+            yield entry
+    return fault
+
+
+def files(top, faults):
+    """The files of a folder that may have messages, each behind what of its path stays as it is read, with the call that reads it.
+
+    What is not looked into goes to the faults, by its path below the folder.
+    """
+    is_mail = False
+    for path, folders, names in os.walk(top, onerror=lambda error: faults.update({relative(error.filename, top): Unseen(error.strerror)})):
+        below = relative(path, top)
+        is_maildir = any(name in folders for name in MAILDIR)
+        # What is moved from new to cur meanwhile stands in one of the lists, or in both.
+        folders[:] = sorted((name for name in folders if not (is_maildir and name == "tmp")), key=lambda name: (name == "cur", name))
+        links = filter(os.path.islink, (os.path.join(path, name) for name in folders))
+        faults.update((relative(link, top), NoText("a link to a folder")) for link in links)
+        if os.path.basename(os.path.abspath(path)) in MAILDIR:
+            is_mail = True
+            for name in sorted(names):
+                yield (os.path.dirname(path), name.partition(":")[0]), beneath(below, name), message_file
+        elif not is_maildir:
+            for name in sorted(names):
+                if may_be_mail(os.path.join(path, name), faults, top):
+                    is_mail = True
+                    yield (path, name), beneath(below, name), any_file
+    if not is_mail:
+        faults.setdefault(".", Unseen("no mail: it has no folder cur or new, and no file of messages"))
+
+
+def relative(path, top):
+    return os.path.relpath(path, top)
+
+
+def beneath(below, name):
+    return name if below == "." else os.path.join(below, name)
+
+
+def may_be_mail(path, faults, top):
+    """Whether a file of a folder that is no Maildir has messages; why not goes to the faults."""
+    try:
+        if os.path.islink(path):
+            raise NoText("a link to a file")
+        if not stat.S_ISREG(os.stat(path).st_mode):
+            raise NoText("no regular file")
+        with opened(path) as file:
+            if not is_mail_head(file.read(HEAD_LOOK)):
+                raise NoText("no mail")
+        return True
+    except Unfit as fault:
+        faults[relative(path, top)] = fault
+    except (OSError, *FAULTS) as error:
+        faults[relative(path, top)] = Unseen(getattr(error, "strerror", None) or f"it can't be unpacked: {error}")
+    return False
+
+
+def is_mail_head(head):
+    """Whether a file that begins so is an mbox or a message: each line up to an empty one is a field's, and one of a message."""
+    lines = head.splitlines()
+    if head.startswith(b"From "):
+        return is_beginning(lines[0], lines[1] if len(lines) > 1 else b"", True)
+    if len(head) == HEAD_LOOK:
+        lines.pop()
+    fields = list(itertools.takewhile(bytes.strip, lines))
+    return all(FIELD.match(line) or line[:1] in b" \t" for line in fields) and any(map(FIRST.match, fields))
+
+
+def message_file(path, below, known):
+    """The one message of a file."""
+    place = Place(below).spelled()
+    try:
+        found = os.stat(path)
+    except OSError as error:
+        yield Entry(place, Unseen(error.strerror))
+        return
+    mark = f"{found.st_size} {found.st_mtime_ns}"
+    name = known.name_at(place, mark)
+    if name:
+        yield Entry(place, functools.partial(content_of, path), mark, name)
+    else:
+        yield Entry(place, content_of(path), mark)
+
+
+def any_file(path, below, known):
+    """The messages of an mbox, or the one message that a file is."""
+    try:
+        with opened(path) as file:
+            is_mbox = file.read(5) == b"From "
+        yield from (mbox if is_mbox else message_file)(path, below, known)
+    except (OSError, *FAULTS) as error:
+        yield Entry(Place(below).spelled(), Unseen(getattr(error, "strerror", None) or f"it can't be unpacked: {error}"))
+
+
+def content_of(path):
+    """The bytes of a file; where a mail reader has moved it meanwhile, that it is unseen."""
+    try:
+        with opened(path) as file:
+            return file.read()
+    except (OSError, *FAULTS) as error:
+        return Unseen(getattr(error, "strerror", None) or f"it can't be unpacked: {error}")
+
+
+# --- Archives.
+
+
+def messages(path, known):
+    """The messages of an archive, each an `Entry`. Raises `OSError` where it cannot be read."""
+    if os.path.isdir(path):
+        yield from folder(path, known)
+        return
+    mode = os.stat(path).st_mode
+    if stat.S_ISCHR(mode) or stat.S_ISBLK(mode):
+        raise OSError(f"{path} is a device")
+    try:
+        yield from mbox(path, "", known) if stat.S_ISREG(mode) else stream(path)
+    except FAULTS as error:
+        raise OSError(f"{path} can't be unpacked: {error}") from None
+
+
+def stream(path):
+    """The messages that come through a pipe."""
+    with open(path, "rb") as file:
+        for begin, raw in split(file):
+            yield Entry(Place("", begin, len(raw)).spelled(), raw)
+
+
+def raw_at(found):
+    """The bytes of a message that was brought in, where it stands there still."""
+    with opened(found.path) as file:
+        file.seek(found.begin or 0)
+        return file.read(-1 if found.begin is None else found.length)
