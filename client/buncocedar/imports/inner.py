@@ -23,8 +23,9 @@ def parts_inside(word):
 def inner_words(text):
     """Each word of a text that has parts, once, with its parts behind it. The text has one space for each run of blanks."""
     found = {}
-    for token in filter(MAY_HAVE.search, dict.fromkeys(text.split(" "))):
-        for word in WORD.findall(token):
+    for token in dict.fromkeys(text.split(" ")):
+        # Most are letters alone, of which nothing need be looked for.
+        for word in WORD.findall(token) if not token.isalnum() and MAY_HAVE.search(token) else ():
             parts = parts_inside(word)
             if parts:
                 found[word] = parts
