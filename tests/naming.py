@@ -31,13 +31,19 @@ class Records:
             GONE: Source("folder", os.path.join(folder, "gone")),
         }
 
+    def repeats(self, sources):
+        return []
+
+    def marks(self, sources, form):
+        return {}
+
 
 def stamp(number, content, source=HERE, place="", text="", parts=1):
     """The stamp of a document whose parts have the numbers from this one on."""
     return Stamp(tuple(range(number, number + parts)), digest(FORM + content), source, place, text)
 
 
-def message(wanted, content, place="", former=b""):
+def message(wanted, content, place="", former=()):
     """A document that is the same wherever it stands."""
     return Document(wanted, content, lambda: Text("", ""), place, former=former)
 
@@ -99,7 +105,7 @@ CASES = {
     "one whose stamp was made otherwise before": (
         {"a": stamp(1, b"old", THERE)},
         {"a": 1},
-        [message("a", b"1", former=b"old")],
+        [message("a", b"1", former=(b"old",))],
         [("a", "changed")],
     ),
     "a name that breaks the rule": ({}, {}, [message("a b", b"1")], [(name_of("a b"), "added")]),
