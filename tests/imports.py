@@ -39,7 +39,7 @@ from buncocedar.imports.interrupts import Interrupts
 from buncocedar.imports.log import Log
 from buncocedar.imports.parts import parts_of
 from buncocedar.imports.stamps import name_of
-from buncocedar.tools import documents, find, matching, prompt
+from buncocedar.tools import documents, matching, prompt
 from buncocedar.tools import rows as answer_rows
 from cases import FAKE, Case
 
