@@ -35,7 +35,7 @@ COMPLETED = [
     (["bunco", "find", "--col"], ["--color"]),
     (["bunco", "find", "x.alta", "--color", ""], ["auto", "always", "never"]),
     (["bunco", "find", "x.alta", "--limit", ""], []),
-    (["bunco", "mail", "--no"], ["--no-merge"]),
+    (["bunco", "mail", "--no"], ["--no-merge", "--no-attachments"]),
     (["bunco", "mail", ""], []),
     (["bunco", "completion", "z"], ["zsh"]),
     (["bunco", "nothing", "--x"], []),

@@ -166,9 +166,9 @@ MAIL = "".join(
     f"From a Mon Jan  1 00:00:00 2024\nMessage-ID: <{name}@x>\nFrom: {writer} <{name}@x>\n{date}Subject: The {name}\n\nquick {name}\n\n"
     for name, writer, date in [
         ("spring", "Ann Lee", "Date: 1 Mar 2024 10:00:00 +0000\n"),
-        ("old", "thread:ab", "Date: 1 Jan 1999 10:00:00 +0000\n"),
+        ("old", "Cy", "Date: 1 Jan 1999 10:00:00 +0000\n"),
         ("none", "Bob", ""),
-        ("middle", "thread:ab", "Date: 1 Jun 2010 10:00:00 +0000\n"),
+        ("middle", "Cy", "Date: 1 Jun 2010 10:00:00 +0000\nReferences: <old@x>\n"),
     ]
 )
 
@@ -192,7 +192,6 @@ class Orders(Case):
         self.assertEqual(self.names("quick", "--top", "2"), ["middle", "none"])
 
     def test_threads(self):
-        # An importer notes the thread in the head of a message: here it is in the writer's name.
         self.assertEqual(self.names("old", "--thread"), ["old", "middle"])
         self.assertEqual(self.names("quick", "--thread"), ["old", "middle", "none", "spring"])
         self.assertEqual(self.names("quick", "--thread", "--limit", "1"), ["old", "middle"])

@@ -312,7 +312,7 @@ class Folders(Case):
         process = self.start("packages", self.path, do={}, stdin=subprocess.PIPE)
         stanza = "Package: p{}\nDescription: about {}\n text\n\n"
         fed = 0
-        while not os.path.exists(self.path + ".stamps") or not os.path.getsize(self.path + ".stamps"):
+        while not os.path.exists(self.path) or b"add p" not in self.read(self.path):
             process.stdin.write(stanza.format(fed, fed))
             process.stdin.flush()
             fed += 1
@@ -1177,7 +1177,7 @@ class Find(Case):
         shown = self.typed(b"help\n", b"show 3\n", b"show 24\n", b"quit\n", words=("--context",))
         self.assertEqual(self.status, 0)
         self.assertIn("show N    prints document N", shown)
-        self.assertEqual(shown.count("so quick \ufffd]0;title\ufffd\r\n"), 2)
+        self.assertEqual(shown.count("so quick \ufffd]0;title\ufffd"), 2)
         if prompt.readline is not None:
             self.assertEqual(self.read(self.at("history")).decode().split("\n")[-5:-1], ["help", "show 3", "show 24", "quit"])
             self.assertNotIn("\x1b]0;", self.typed(b"\x1b[A\n", words=("--context",)))
