@@ -123,13 +123,14 @@ def report(path, root, digests: Digests, stats, live):
     """Says what was found in an index of which every rule holds, and answers the status."""
     before = kept(digests_path(path))
     known, changed = differences(before, digests)
+    day = before.day if before else ""
     if changed:
         levels = ", ".join(f"level {number} of {len(root.levels)}" if number else "the list of deleted documents" for number in changed)
-        return say_damage(f"{path}: damaged: the bytes of {levels} are others than at the check of {before.day}")
+        return say_damage(f"{path}: damaged: the bytes of {levels} are others than at the check of {day}")
     say(f"{path}: no damage found: {stats.documents:,} documents of {stats.words:,} words; levels: {len(root.levels)}")
     say_size(path, root)
     if known:
-        say(f"{path}: {known} of {len(root.levels)} levels have the bytes that they had at the check of {before.day}")
+        say(f"{path}: {known} of {len(root.levels)} levels have the bytes that they had at the check of {day}")
     fault = keep(digests_path(path), digests)
     if fault:
         say(f"{path}: the digests of its levels could not be kept: {fault}")

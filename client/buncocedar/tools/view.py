@@ -4,7 +4,7 @@ import datetime
 import json
 import os
 import sys
-from typing import NamedTuple
+from typing import List, NamedTuple
 
 from ..document import Text
 from ..terminal import NAME, PLACE, Paint, linked, printable, wants_colour
@@ -57,7 +57,7 @@ class View:
         self.about = self.terminal if options.about is None else options.about
         self.wanted = None
         self.path = None
-        self.chosen = []  # the names of the documents that are to be edited
+        self.chosen: List[str] = []  # the names of the documents that are to be edited
 
     def needs_wanted(self):
         options = self.options
