@@ -112,7 +112,7 @@ def known_front(file, found, below, known):
     if mark is None:
         return [], 0
     pieces = known.pieces(below)
-    if mark.has(found) and len(pieces) == mark.count:
+    if mark.has(found) and len(pieces) == mark.documents:
         return pieces, None
     in_front = [piece for piece in pieces if piece[0] < mark.front]
     if found.st_size > mark.size and len(in_front) == mark.before and digest_of_front(file, mark.front) == mark.digest:

@@ -186,7 +186,7 @@ class Found(NamedTuple):
 class FileMark(NamedTuple):
     """By what a file of many documents is known again: its size and time, and the digest of its front, up to the last document.
 
-    `before` is how many documents stood before that, and `count` how many in all.
+    `before` is how many documents stood before that, and `documents` how many in all.
     """
 
     size: int
@@ -194,7 +194,7 @@ class FileMark(NamedTuple):
     front: int
     digest: str
     before: int
-    count: int
+    documents: int
 
     def has(self, found):
         """Whether the file that has this `os.stat_result` is as it was."""
