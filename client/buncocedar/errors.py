@@ -238,7 +238,7 @@ class NoFile(NoIndex):
 
 
 class Full(Ended):
-    """Status 8: the next record has `need` bytes, and there is room for `gap`. No line without a reply was done."""
+    """Status 8: a level or the deletion list needs `need` bytes, and the greatest gap has `gap`. No line without a reply was done."""
 
     advice = "the index is full, and the rest needs another one"
 
