@@ -38,6 +38,17 @@ passes_as a b first step one weaker = record {
 pub passes_same : (a b c : DiskState) (step : List ℕ → List ℕ → Type 0) → Passes step a b → Passes Same b c → Passes step a c
 passes_same a b c step one two = passes_then a b c step Same step one two (λ z here. here) (λ z here. subst (λ y. After a.images step y) (sym here.2) (one.now here.0 here.1))
 
+-- a further call of a run, from content that is synced
+pub passes_next : (tells : Type 0) (a b c : DiskState) (second step : List ℕ → List ℕ → Type 0) → IsLawful tells a → Passes step a b → Only b.content b.images → Passes second b c
+    → (tells → (z : List ℕ) → second b.content z → step a.content z) → Passes step a c
+passes_next tells a b c second step lawful so_far only_b next leads = passes_then a b c step second step so_far next (λ z here. here) from_second
+  where
+    from_second : (z : List ℕ) → After b.images second z → After a.images step z
+    from_second z (y, now, torn) =
+        let first = so_far.now y now in
+        let told = lawful.told first.0 first.1 in
+        (a.content, lawful.present told, leads told z (subst (λ (l : List ℕ). second l z) (only_b y now) torn))
+
 -- before the first call of a run each image at any moment is one of those now
 pub leaves_start : (tells : Type 0) (s : DiskState) (P : List ℕ → Type 0) → IsLawful tells s → Each s.images P → LeavesOnly P s s
 leaves_start tells s P lawful here = record {
@@ -83,17 +94,6 @@ module _ (tells : Type 0) (a : DiskState) (lawful_a : IsLawful tells a) (only_a 
       from_first z (y, now, torn) =
           let told = lawful_a.told y now in
           (a.content, lawful_a.present told, leads told z (subst (λ (l : List ℕ). first l z) (only_a y now) torn))
-
-  -- a further call, from content that is synced
-  pub passes_next : (b c : DiskState) (second step : List ℕ → List ℕ → Type 0) → Passes step a b → Only b.content b.images → Passes second b c
-      → (tells → (z : List ℕ) → second b.content z → step a.content z) → Passes step a c
-  passes_next b c second step so_far only_b next leads = passes_then a b c step second step so_far next (λ z here. here) from_second
-    where
-      from_second : (z : List ℕ) → After b.images second z → After a.images step z
-      from_second z (y, now, torn) =
-          let first = so_far.now y now in
-          let told = lawful_a.told first.0 first.1 in
-          (a.content, lawful_a.present told, leads told z (subst (λ (l : List ℕ). second l z) (only_b y now) torn))
 
   -- a call that changes nothing leaves the disk synced
   pub only_same : (b : DiskState) → Passes Same a b → (tells → b.content ≡ a.content) → Only b.content b.images

@@ -2,7 +2,7 @@
 ghost use Rattle.std.specs.Prelude.{◌≡◌, ℕ, ◌+◌, ◌<◌, ◌≤◌, [], ◌∷◌, ◌++◌, length, IfOk, IfErr, OnOk, OnErr};
 ghost use Rattle.alta_layout.specs.Places.{half_start};
 ghost use Rattle.alta_codec.specs.Faults.{Rose};
-ghost use Rattle.alta_disk.specs.Calls.{Costs, Syncs};
+ghost use Rattle.alta_disk.specs.Calls.{Charges, Costs};
 ghost use Rattle.alta_disk.specs.Disk.{DiskState, Holds, Stands, Torn, Only, Passes};
 ghost use Rattle.alta_journal.specs.declared.appending.JournalFault.TheVariants.{Disk as DiskFault};
 ghost use Rattle.alta_journal.specs.Places.{left_behind, HasClosedGate};
@@ -76,22 +76,24 @@ pub fn append<D: Disk>(disk: &mut D, tail: &mut Tail, ready: &Ready) -> Result<(
     Ok(())
 }
 
-/// Closes the first gate of a half and syncs. After `Ok` the half has no record, and the answer is its tail. Nothing
-/// but that byte has changed. The disk has at least [`HEAD_BYTES`](crate::HEAD_BYTES).
+/// Closes the first gate of a half, by one write without a sync. After `Ok` the half has no record, and the answer is its
+/// tail; a stop may leave any byte at that gate until a sync. Nothing but that byte has changed. The disk has at least
+/// [`HEAD_BYTES`](crate::HEAD_BYTES).
 ///
 /// # Errors
 ///
-/// `Failed` where a call of the disk failed. A stop may then leave the gate open or closed.
+/// `Failed` where the write failed. A stop may then leave the gate open or closed.
 pub fn close_half<D: Disk>(disk: &mut D, slot: Slot) -> Result<Tail, Failed>
     requires size { D.tells → HEAD_BYTES ≤ length (D.state disk.old).content }
     requires limit { HEAD_BYTES ≤ (D.state disk.old).limit }
     ensures written { D.tells → OnOk result (Holds (D.state disk.old).content (half_start slot) (GATE_CLOSED ∷ []) (D.state disk.new).content) }
     ensures empty { (version : ℕ) → D.tells → OnOk result (EndsAt version (half_start slot) (half_start slot) [] (D.state disk.new).content) }
-    ensures closed { OnOk result (Stands D.tells (D.state disk.new) (HasClosedGate (half_start slot))) }
+    ensures closed { D.tells → OnOk result (HasClosedGate (half_start slot) (D.state disk.new).content) }
     ensures tail { IfOk result (λ tail. (tail.slot ≡ slot) × (tail.place ≡ half_start slot)) }
-    ensures syncs { Syncs 0 (Torn (half_start slot) 1) (D.state disk.old) (D.state disk.new) result }
+    ensures images { Passes (Torn (half_start slot) 1) (D.state disk.old) (D.state disk.new) }
+    ensures charges { Charges 0 (D.state disk.old) (D.state disk.new) result }
 {
-    write_synced(disk, slot.half_start(), &[GATE_CLOSED])?;
+    disk.write(slot.half_start(), &[GATE_CLOSED])?;
     Ok(Tail {
         slot,
         place: slot.half_start(),

@@ -80,7 +80,7 @@ module _ (slot : Slot) (taken : List Extent) (limit : ℕ) (pieces : List Piece)
 none_spares : (slot : Slot) (root : Root) → Spares [] slot root
 none_spares slot root = record { half = tt; extents = λ k d lt. tt }
 
-spares_both : (range : ℕ × ℕ) (ranges : List (ℕ × ℕ)) (slot : Slot) (root : Root) → Spares (range ∷ []) slot root → Spares ranges slot root → Spares (range ∷ ranges) slot root
+pub spares_both : (range : ℕ × ℕ) (ranges : List (ℕ × ℕ)) (slot : Slot) (root : Root) → Spares (range ∷ []) slot root → Spares ranges slot root → Spares (range ∷ ranges) slot root
 spares_both range ranges slot root one more = record {
   half = (one.half.0, more.half);
   extents = λ k d lt. ((one.extents k d lt).0, more.extents k d lt);

@@ -12,7 +12,7 @@ use Rattle.alta_journal.specs.Journal.{EndsAt}
 use Rattle.alta_root.specs.Gaps.{IsGap}
 use Rattle.alta_root.specs.Root.{IsSound, extents_of, next_sequence}
 use Rattle.alta_root.specs.Slots.{Counts}
-use Rattle.alta_root.specs.Switches.{Switches}
+use Rattle.alta_root.specs.Switches.{Switches, slot_range}
 use Rattle.alta_root.specs.declared.places.TheConstants.{VERSION}
 use Rattle.alta_root.specs.declared.root.Root.{Root}
 use Rattle.alta_rewrite.specs.declared.piece.Piece.{Piece}
@@ -74,6 +74,16 @@ pub record Puts (slot : Slot) (pieces : List Piece) (old new : List ℕ) : Type 
   pub journal : (version : ℕ) → EndsAt version (half_start slot) (half_start slot) [] new
   pub bytes : AreBytes new
 
--- What a stop may leave while a root is put: pieces and gate in part, and else all of both, and a switch of the root in part.
+-- what is written while a root in this slot is put
+abbrev pub ranges_put : Slot → List Piece → List (ℕ × ℕ)
+ranges_put slot pieces = slot_range slot ++ ranges_before slot pieces
+
+-- Outside the pieces, the gate of the half, and the slot nothing has changed, and each root that counted in the other slot counts.
+pub record Prepares (slot : Slot) (pieces : List Piece) (old new : List ℕ) : Type 0 where
+  pub touches : Touches (ranges_put slot pieces) old new
+  pub counts : (earlier : Root) → Counts (other slot) earlier old → Counts (other slot) earlier new
+
+-- What a stop may leave while a root is put: pieces, gate and slot in part, where no other root counts yet; or else all of the
+-- pieces with the gate, and a switch of the root in part.
 abbrev pub Putting : Slot → Root → List Piece → List ℕ → List ℕ → Type 0
-Putting slot root pieces old new = Touches (ranges_before slot pieces) old new ⊎ ((middle : List ℕ) × Puts slot pieces old middle × Switches slot root middle new)
+Putting slot root pieces old new = Prepares slot pieces old new ⊎ ((middle : List ℕ) × Puts slot pieces old middle × Switches slot root middle new)

@@ -1,6 +1,6 @@
-// Pieces are written, a gate is closed, one sync makes both firm, and the root is switched.
-// One sync is enough for pieces and gate: they touch nothing that the root in force names, so an image with any part of them is
-// opened as before.
+// Pieces are written, a gate is closed, and the root is switched, whose first sync makes both firm.
+// They need no sync of their own: they touch nothing that the root in force names, nor its slot, so an image with any part of them
+// is opened as before, and a switch syncs before it opens a gate.
 ghost use Rattle.std.specs.Prelude.{◌≡◌, ◌≤◌, ◌+◌, [], List, ℕ, length, OnOk};
 ghost use Rattle.std.specs.List.{All};
 ghost use Rattle.alta_layout.specs.declared.places.TheConstants.{HEAD_BYTES};
@@ -31,9 +31,9 @@ use alta_root::{Root, switch};
 /// further than the disk and these reach. What `root` names lies inside the disk once the pieces are there, and its sequence
 /// comes next.
 ///
-/// Each piece is one write, and so is the first gate of the journal's half that `slot` uses, which is closed; one sync makes all
-/// of it firm, and then the root is switched by at most three writes with their syncs. At each moment every image is opened as
-/// before, or as the new root says, and after `Ok` only the latter. It takes no memory, and reads one byte.
+/// Each piece is one write, and so is the first gate of the journal's half that `slot` uses, which is closed; then the root is
+/// switched by at most three writes, each with its sync, of which the first makes all before it firm. At each moment every image
+/// is opened as before, or as the new root says, and after `Ok` only the latter. It takes no memory, and reads one byte.
 ///
 /// # Errors
 ///
@@ -69,14 +69,15 @@ pub(crate) fn put_root<D: Disk>(
     switch(disk, slot, root)
 }
 
-// Writes the pieces, closes the gate, and syncs.
+// Writes the pieces, and closes the gate.
 fn put<D: Disk>(disk: &mut D, slot: Slot, pieces: &[Piece<'_>]) -> Result<(), Failed>
     requires whole { D.tells → HEAD_BYTES ≤ length (D.state disk.old).content }
     requires laid { D.tells → (taken : List Extent) × AreLaid taken (D.state disk.old).limit (length (D.state disk.old).content) [] pieces.now }
     requires fits { All (Fills (D.state disk.old).limit) pieces.now }
     requires limit { HEAD_BYTES ≤ (D.state disk.old).limit }
     ensures put { D.tells → OnOk result (Puts slot pieces.now (D.state disk.old).content (D.state disk.new).content) }
-    ensures syncs { Syncs 0 (Touches (ranges_before slot pieces.now)) (D.state disk.old) (D.state disk.new) result }
+    ensures images { Passes (Touches (ranges_before slot pieces.now)) (D.state disk.old) (D.state disk.new) }
+    ensures charges { Charges 0 (D.state disk.old) (D.state disk.new) result }
 {
     write_pieces(disk, pieces)?;
     close_half(disk, slot)?;

@@ -284,10 +284,10 @@ fn outcome(alloc: Global, text: &str) -> Result<String, Fail> {
 // The calls that fail, whether slot A is open, the bytes behind the head, whether a level comes first, from which on levels stay,
 // whether one comes last, and whether a list comes; and what is answered, with what the first images say.
 //
-// Roots are read by three calls. Then each level, the list and the gate of the half are written, and synced, and the slot's gate is
-// read, and closed where it is open, the body is written, and the gate is opened, each synced. Over a closed slot the last gate is
-// torn, and then it is written, but not synced: with a list alone, of which each call fails in turn, and with a level and a list,
-// where all calls fail from one on.
+// Roots are read by three calls. Then each level, the list and the gate of the half are written, and the slot's gate is read. It is
+// closed where it is open, the body is written, and the gate is opened, each synced. Over a closed slot the last gate is torn, and
+// then it is written, but not synced: with a list alone, of which each call fails in turn, and with a level and a list, where all
+// calls fail from one on.
 const ROWS: &str = "99 open 378 first 0 last - => 126 0 252 AAAA
 99 open 252 first 1 - - => 126 AAAA
 99 open 252 - 0 last - => 0 126 AAAA
@@ -302,20 +302,18 @@ const ROWS: &str = "99 open 378 first 0 last - => 126 0 252 AAAA
 6 closed 378 - 0 - list => failed BBBB
 7 closed 378 - 0 - list => failed BBBB
 8 closed 378 - 0 - list => failed BBBB
-9 closed 378 - 0 - list => failed BBBB
-10 closed 378 - 0 - list => failed BBLB
-11 closed 378 - 0 - list => failed LBLB
-12 closed 378 - 0 - list => 0 list 126 LLLL
+9 closed 378 - 0 - list => failed BBLB
+10 closed 378 - 0 - list => failed LBLB
+11 closed 378 - 0 - list => 0 list 126 LLLL
 4-20 closed 378 - 0 last list => failed BBBB
 5-20 closed 378 - 0 last list => failed BBBB
 6-20 closed 378 - 0 last list => failed BBBB
 7-20 closed 378 - 0 last list => failed BBBB
 8-20 closed 378 - 0 last list => failed BBBB
 9-20 closed 378 - 0 last list => failed BBBB
-10-20 closed 378 - 0 last list => failed BBBB
-11-20 closed 378 - 0 last list => failed BBLB
-12-20 closed 378 - 0 last list => failed LBLB
-13-20 closed 378 - 0 last list => 0 126 list 252 LLLL";
+10-20 closed 378 - 0 last list => failed BBLB
+11-20 closed 378 - 0 last list => failed LBLB
+12-20 closed 378 - 0 last list => 0 126 list 252 LLLL";
 
 pub(crate) fn a_rewrite_is_whole_or_not_there(rt: &impl Abort, alloc: Global) -> Result<(), Fail> {
     for row in ROWS.split('\n') {

@@ -1,11 +1,15 @@
 // The bytes of records, damage with its places, the end of a half, and what each stop leaves.
 ghost use Rattle.std.specs.Prelude.{◌≡◌, ◌+◌, ◌≤◌, length, IfOk, IsTrue};
+ghost use Rattle.alta_disk.specs.Disk.{DiskState, Stands};
+ghost use Rattle.alta_disk.specs.Memory.{memory_state};
+ghost use Rattle.alta_journal.specs.Places.{HasClosedGate};
+ghost use Rattle.alta_layout.specs.declared.places.TheConstants.{HEAD_BYTES};
 ghost use Rattle.alta_journal.specs.Entry.{KeepTexts, KeepsRules, Lacks};
 ghost use Rattle.alta_journal.specs.declared.places.TheConstants.{TEXTS_BYTES};
 
 use crate::images::{BLUE, LONGEST, RED_FOX, put, put_bytes};
 use alta_codec::{Text, name_ok, zeros};
-use alta_disk::{LoadFault, MemoryDisk};
+use alta_disk::{Disk, Failed, LoadFault, MemoryDisk};
 use alta_journal::{
     Entry, JournalFault, Tail, a_half_is_read_in_one_way, a_half_is_read_or_broken, append,
     close_half, is_old, ready, replay,
@@ -236,6 +240,18 @@ fn read_back(alloc: Global, slot: Slot, bytes: &[u8]) -> Result<String, Fail> {
     Ok(out)
 }
 
+// The tail of a half without records.
+fn begun(disk: &mut MemoryDisk, slot: Slot) -> Result<Tail, Failed>
+    requires whole { HEAD_BYTES ≤ length (memory_state disk.old).content }
+    requires limit { HEAD_BYTES ≤ (memory_state disk.old).limit }
+    ensures closed { IfOk result (λ tail. Stands (Unit {0}) (memory_state disk.new) (HasClosedGate tail.place)) }
+    ensures limit { (memory_state disk.new).limit ≡ (memory_state disk.old).limit }
+{
+    let tail = close_half(disk, slot)?;
+    disk.sync()?;
+    Ok(tail)
+}
+
 // The places of the tail of a half before and behind a record that is written to it, and what the half begins with once a delete of
 // document 258 is written behind that.
 fn written(alloc: Global, slot: Slot, entry: &Entry) -> Result<(u64, u64, Vec<u8>), Fail>
@@ -243,7 +259,7 @@ fn written(alloc: Global, slot: Slot, entry: &Entry) -> Result<(u64, u64, Vec<u8
 {
     let content = blank(alloc, HEAD_BYTES as usize)?;
     let mut disk = MemoryDisk::new(alloc, content, HEAD_BYTES, Vec::new(alloc));
-    let Ok(mut tail) = close_half(&mut disk, slot) else {
+    let Ok(mut tail) = begun(&mut disk, slot) else {
         return Err("no format".into());
     };
     let before = tail.place;
@@ -347,7 +363,7 @@ fn entries_left(
     let _ = fail.push(call);
     let content = blank(alloc, HEAD_BYTES as usize)?;
     let mut disk = MemoryDisk::new(alloc, content, HEAD_BYTES, fail);
-    let mut tail = close_half(&mut disk, Slot::B).expect(rt, "a format");
+    let mut tail = begun(&mut disk, Slot::B).expect(rt, "a format");
     let first = ready(alloc, &Entry::Delete { number: 1 })?;
     append(&mut disk, &mut tail, &first).expect(rt, "an append");
     let second = ready(alloc, &Entry::Delete { number: 2 })?;

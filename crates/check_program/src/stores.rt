@@ -499,9 +499,9 @@ pub(crate) fn a_root_of_version_1_is_raised_before_a_replace(
     assert!(rt; replaced.len() > 2_105_344);
     assert!(rt; &replaced[4_096..4_099] == b"\xa5\x02\x01".as_slice());
     assert!(rt; &replaced[1_056_768..1_056_797] == REPLACE_1);
-    // Opening makes five calls, the switch seven, and the record four.
+    // Opening makes five calls, the switch six, and the record four.
     let after: [Counts; 3] = [(1, 6, 2), (1, 1, 3), (1, 1, 3)];
-    for calls in 4..17 {
+    for calls in 4..16 {
         assert!(rt;
             keeps_answers(alloc, &old, &replace, &after, calls)?,
             "{calls} calls"

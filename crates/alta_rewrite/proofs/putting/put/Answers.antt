@@ -1,14 +1,9 @@
-use Rattle.std.proofs.Common.{rules, arith}
+use Rattle.std.proofs.Common.{arith}
 use Rattle.alta_rewrite.proofs.PutLaws.{puts_closed, run_put}
 use Rattle.alta_rewrite.proofs.putting.put.Goals as goal
 
-pub returns-in_err-close_half-clause-syncs : goal.returns-in_err-close_half-clause-syncs
-returns-in_err-close_half-clause-syncs g c = record {
-  images =
-      run_put _ _ _ c.args.slot c.args.pieces.now c.write_pieces.ensures.images c.close_half.ensures.syncs.images;
-  durable = search rules;
-  charges = search rules;
-}
+pub returns-in_err-close_half-clause-images : goal.returns-in_err-close_half-clause-images
+returns-in_err-close_half-clause-images g c = run_put _ _ _ c.args.slot c.args.pieces.now c.write_pieces.ensures.images c.close_half.ensures.images
 
 pub returns-clause-put : goal.returns-clause-put
 returns-clause-put g c = λ told.
@@ -22,10 +17,5 @@ returns-clause-put g c = λ told.
     (λ version. c.in_ok-close_half.ensures.empty version told)
     (lawful.bytes then.clock then.content (lawful.counts_now then.clock then.content (omega arith) (lawful.present told)))
 
-pub returns-clause-syncs : goal.returns-clause-syncs
-returns-clause-syncs g c = record {
-  images =
-      run_put _ _ _ c.args.slot c.args.pieces.now c.write_pieces.ensures.images c.close_half.ensures.syncs.images;
-  durable = c.in_ok-close_half.ensures.syncs.durable;
-  charges = search rules;
-}
+pub returns-clause-images : goal.returns-clause-images
+returns-clause-images g c = run_put _ _ _ c.args.slot c.args.pieces.now c.write_pieces.ensures.images c.close_half.ensures.images

@@ -1,12 +1,12 @@
 use Rattle.std.proofs.Common.{rules}
 use Rattle.alta_rewrite.proofs.PutLaws.{put_follows}
-use Rattle.alta_rewrite.proofs.RunLaws.{done_as, held_put, leaves_opened, leaves_stands, opened_put, run_all, run_first, stands_put}
+use Rattle.alta_rewrite.proofs.RunLaws.{done_as, held_put, leaves_opened, leaves_stands, opened_put, run_all, run_first, run_pending, stands_put}
 use Rattle.alta_rewrite.proofs.putting.put_root.Goals as goal
 
 pub returns-in_err-put-clause-syncs : goal.returns-in_err-put-clause-syncs
 returns-in_err-put-clause-syncs g c = record {
   images =
-      run_first g.D.Disk.tells c.args.slot c.args.root.now c.args.pieces.now _ (g.met.D.Disk.lawful c.args.disk.now) c.requires.settled _ c.put.ensures.syncs.images;
+      run_first g.D.Disk.tells c.args.slot c.args.root.now c.args.pieces.now _ (g.met.D.Disk.lawful c.args.disk.now) c.requires.settled c.requires.follows _ c.put.ensures.images;
   durable = search rules;
   charges = search rules;
 }
@@ -21,13 +21,17 @@ returns-in_err-put-clause-stands g c =
     leaves_stands g.D.Disk.tells c.args.slot c.args.root.now c.args.pieces.now _ (g.met.D.Disk.lawful c.args.disk.now) c.requires.settled c.requires.follows _
     (returns-in_err-put-clause-syncs g c).images
 
+pub switch-requires-clause-pending : goal.switch-requires-clause-pending
+switch-requires-clause-pending g c =
+    run_pending g.D.Disk.tells c.args.slot c.args.root.now c.args.pieces.now _ (g.met.D.Disk.lawful c.args.disk.now) c.requires.settled c.requires.follows _ c.put.ensures.images c.in_ok-put.ensures.put
+
 pub switch-requires-clause-follows : goal.switch-requires-clause-follows
 switch-requires-clause-follows g c = λ told. put_follows c.args.slot c.args.root.now c.args.pieces.now _ _ (c.requires.follows told) _ (c.in_ok-put.ensures.put told)
 
 pub returns-clause-syncs : goal.returns-clause-syncs
 returns-clause-syncs g c = record {
   images =
-      run_all g.D.Disk.tells c.args.slot c.args.root.now c.args.pieces.now _ (g.met.D.Disk.lawful c.args.disk.now) c.requires.settled _ _ c.put.ensures.syncs.images c.in_ok-put.ensures.syncs.durable c.in_ok-put.ensures.put
+      run_all g.D.Disk.tells c.args.slot c.args.root.now c.args.pieces.now _ (g.met.D.Disk.lawful c.args.disk.now) c.requires.settled c.requires.follows _ c.put.ensures.images _ c.in_ok-put.ensures.put
       c.switch.ensures.syncs.images;
   durable = c.switch.ensures.syncs.durable;
   charges = search rules;
