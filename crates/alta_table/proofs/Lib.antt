@@ -1,4 +1,5 @@
 pub mod Spans
+pub mod PackedLaws
 pub mod Order
 pub mod RowLaws
 pub mod TermLaws

@@ -19,6 +19,7 @@ use Rattle.alta_table.specs.declared.parts.Parts.{Parts}
 use Rattle.alta_table.specs.declared.span.TermSpan.{TermSpan}
 use Rattle.alta_table.specs.Tables.{tables_bytes, read_head, tables_of}
 use Rattle.alta_table.proofs.TableLaws.{tables_are}
+use Rattle.alta_table.specs.Packed.{spans_in}
 use Rattle.alta_table.proofs.RowLaws.{row_spelled, row-some}
 
 -- ---- names
@@ -151,10 +152,10 @@ term_read room end rows more streams places left t le fits pushed placed seen =
 -- ---- what is opened
 
 abbrev pub terms_at : Parts → List TermRow
-terms_at p = rows_in p.text.items p.spans.items
+terms_at p = rows_in p.text.items (spans_in p.spans)
 
 abbrev pub places_at : Parts → List ℕ
-places_at p = places_in p.spans.items
+places_at p = places_in (spans_in p.spans)
 
 -- rows with the places that were kept while they were read
 pub parts_are : (p : Parts) (bytes : List ℕ) (place total : ℕ) → AreBytes bytes → place + total < 2 ^ 64
@@ -196,14 +197,14 @@ stream_is : (p : Parts) (row at : ℕ) → AreParts p → row < length (terms_at
 stream_is p row at a lt here = here ∙ get_or_default (places_at p) row at 0 (omega (arith, streams-len p a, lt)) ∙ ap (λ (l : List ℕ). get_or l row 0) a.streams_are ∙ stream_places-at (p.place + length (tables_bytes p.documents.value (terms_at p))) (terms_at p) row lt
 
 -- a span's place and row are those of its number
-place_of : (p : Parts) (row : ℕ) (s : TermSpan) → s ≡ get_or p.spans.items row s → s.place ≡ get_or (places_at p) row s.place
-place_of p row s is = ap (λ (x : TermSpan). x.place) is ∙ sym (get_or-map (λ (x : TermSpan). x.place) p.spans.items row s)
+place_of : (p : Parts) (row : ℕ) (s : TermSpan) → s ≡ get_or (spans_in p.spans) row s → s.place ≡ get_or (places_at p) row s.place
+place_of p row s is = ap (λ (x : TermSpan). x.place) is ∙ sym (get_or-map (λ (x : TermSpan). x.place) (spans_in p.spans) row s)
 
-row_of : (p : Parts) (row : ℕ) (s : TermSpan) → s ≡ get_or p.spans.items row s → row_in p.text.items s ≡ get_or (terms_at p) row (row_in p.text.items s)
-row_of p row s is = ap (row_in p.text.items) is ∙ sym (get_or-map (row_in p.text.items) p.spans.items row s)
+row_of : (p : Parts) (row : ℕ) (s : TermSpan) → s ≡ get_or (spans_in p.spans) row s → row_in p.text.items s ≡ get_or (terms_at p) row (row_in p.text.items s)
+row_of p row s is = ap (row_in p.text.items) is ∙ sym (get_or-map (row_in p.text.items) (spans_in p.spans) row s)
 
 -- a row's stream and summary end where those of all rows do, on the disk
-pub data_within : (p : Parts) (row : ℕ) (s : TermSpan) → AreParts p → row < length (terms_at p) → s ≡ get_or p.spans.items row s
+pub data_within : (p : Parts) (row : ℕ) (s : TermSpan) → AreParts p → row < length (terms_at p) → s ≡ get_or (spans_in p.spans) row s
     → s.place + s.stream + s.summary ≤ p.place + length (tables_bytes p.documents.value (terms_at p)) + data_bytes (terms_at p)
 data_within p row s a lt is =
     let t : TermRow = row_in p.text.items s in
@@ -211,7 +212,7 @@ data_within p row s a lt is =
     let some = sum_by-take-le data_of (terms_at p) (row + 1) in
     omega (arith, stream_is p row s.place a lt (place_of p row s is), more, some, ap data_of (row_of p row s is))
 
-pub stream_ends : (p : Parts) (row : ℕ) (s : TermSpan) → AreParts p → row < length (terms_at p) → s ≡ get_or p.spans.items row s → s.place + s.stream < 2 ^ 64
+pub stream_ends : (p : Parts) (row : ℕ) (s : TermSpan) → AreParts p → row < length (terms_at p) → s ≡ get_or (spans_in p.spans) row s → s.place + s.stream < 2 ^ 64
 stream_ends p row s a lt is = omega (arith, data_within p row s a lt is, a.below)
 
 map_at : (f : TermRow → ℕ) (rows : List TermRow) (row : ℕ) (d : TermRow) → row < length rows → get_or (map f rows) row 0 ≡ f (get_or rows row d)
@@ -222,13 +223,13 @@ map_at f (t ∷ rows) (suc row) d lt = map_at f rows row d (omega (arith, lt))
 abbrev extent : ℕ → ℕ → Extent
 extent place bytes = record { place = place; bytes = bytes }
 
-pub stream_extent_is : (p : Parts) (row : ℕ) (s : TermSpan) → AreParts p → row < length (terms_at p) → s ≡ get_or p.spans.items row s → extent s.place s.stream ≡ stream_extent (tables_in p) row
+pub stream_extent_is : (p : Parts) (row : ℕ) (s : TermSpan) → AreParts p → row < length (terms_at p) → s ≡ get_or (spans_in p.spans) row s → extent s.place s.stream ≡ stream_extent (tables_in p) row
 stream_extent_is p row s a lt is =
     let t : TermRow = row_in p.text.items s in
     ap (λ (k : ℕ). extent k s.stream) (stream_is p row s.place a lt (place_of p row s is))
     ∙ ap (λ (k : ℕ). extent (stream_place (tables_in p) row) k) (ap (λ (x : TermRow). x.stream) (row_of p row s is) ∙ sym (map_at (λ (x : TermRow). x.stream) (terms_at p) row t lt))
 
-pub summary_extent_is : (p : Parts) (row : ℕ) (s : TermSpan) → AreParts p → row < length (terms_at p) → s ≡ get_or p.spans.items row s → extent (s.place + s.stream) s.summary ≡ summary_extent (tables_in p) row
+pub summary_extent_is : (p : Parts) (row : ℕ) (s : TermSpan) → AreParts p → row < length (terms_at p) → s ≡ get_or (spans_in p.spans) row s → extent (s.place + s.stream) s.summary ≡ summary_extent (tables_in p) row
 summary_extent_is p row s a lt is =
     let t : TermRow = row_in p.text.items s in
     let stream : s.stream ≡ get_or (map (λ (x : TermRow). x.stream) (terms_at p)) row 0 = ap (λ (x : TermRow). x.stream) (row_of p row s is) ∙ sym (map_at (λ (x : TermRow). x.stream) (terms_at p) row t lt) in

@@ -1,14 +1,14 @@
 -- Looking for terms by halves, in rows whose terms rise.
 use Rattle.std.proofs.Common.{◌≡◌, ◌⊎◌, ⊎_elim, inl, inr, ℕ, zero, suc, ◌≤◌, ◌<◌, Bool, true, false, ◌||◌, List, [], ◌∷◌, length, get_or, Some, refl, sym, ap, subst, ◌∙◌, arith}
-use Rattle.std.specs.Prelude.{nat_eq, slice_get}
-use Rattle.std.specs.List.{starts_with}
-use Rattle.std.specs.List.Sorted.{IsNonDecreasingBy, IsPartitionedBy, IsPartitionPoint}
-use Rattle.std.specs.Ordering.{nat_cmp, ordering_index, is_lt}
+use Rattle.std.specs.Prelude.{Option, None, MatchOption, is_some, nat_eq, slice_get}
+use Rattle.std.specs.List.{list_any, starts_with}
+use Rattle.std.specs.Str.{bytes_eq}
+use Rattle.std.specs.List.Sorted.{IsPartitionedBy, IsPartitionPoint}
+use Rattle.std.specs.Ordering.{nat_cmp, is_lt}
 use Rattle.std.specs.Cmp.{IsTotalOrder, nat_cmp_total}
 use Rattle.std.specs.Cmp.Lexicographic.{slice_cmp, lists_total}
 use Rattle.std.specs.declared.cmp.Ordering.{Ordering}
 use Rattle.std.specs.declared.cmp.Ordering.TheVariants.{Less, Equal, Greater}
-use Rattle.std.specs.FinMap.{slice_cmp-IsAntisymmetric, nat_cmp-IsAntisymmetric}
 use Rattle.std.proofs.Math.ListN.{get_or-map}
 use Rattle.std.proofs.lemmas.List as lists
 use Rattle.std.proofs.lemmas.Cmp.{tied_itself}
@@ -17,8 +17,9 @@ use Rattle.alta_codec.specs.Order.{Precedes}
 use Rattle.alta_table.specs.declared.span.TermSpan.{TermSpan}
 use Rattle.alta_table.specs.declared.term.TermRow.{TermRow}
 use Rattle.alta_table.specs.Places.{term_in, row_in, rows_in}
-use Rattle.alta_table.specs.Terms.{AreTermsBehind, AreTerms, terms_of}
-use Rattle.alta_table.specs.Search.{StartsWith, IsPrefixRange}
+use Rattle.alta_table.specs.Terms.{AreTermsBehind, AreTerms, is_end, terms_of}
+use Rattle.alta_content.proofs.Order.{itself, same_term}
+use Rattle.alta_table.specs.Search.{StartsWith, IsPrefixRange, stands_by}
 use Rattle.alta_table.proofs.Order.{cmp_less, cmp_equal, cmp_greater}
 use Rattle.alta_table.proofs.Spans.{term_at, length-rows_in}
 
@@ -30,23 +31,6 @@ bytes_total = lists_total nat_cmp_total
 
 precedes-trans : (a b c : List ℕ) → Precedes a b → Precedes b c → Precedes a c
 precedes-trans a b c h g = bytes_total.trans a b c h g
-
--- a term that stands before another compares with a third no higher
-index-le : (a b t : List ℕ) → Precedes a b → ordering_index (order a t) ≤ ordering_index (order b t)
-index-le a b t h = by (order b t) refl
-  where
-    top : (r : Ordering) → ordering_index r ≤ 2
-    top Less = omega arith
-    top Equal = omega arith
-    top Greater = omega arith
-
-    by : (r : Ordering) → order b t ≡ r → ordering_index (order a t) ≤ ordering_index r
-    by Less e = let f : order a t ≡ Less = precedes-trans a b t h e in omega (arith, ap ordering_index f)
-    by Equal e =
-        let same : b ≡ t = slice_cmp-IsAntisymmetric nat_cmp-IsAntisymmetric b t e in
-        let f : order a t ≡ Less = subst (λ (x : List ℕ). order a x ≡ Less) same h in
-        omega (arith, ap ordering_index f)
-    by Greater e = top (order a t)
 
 -- ---- each row's term stands before those of the rows behind it
 
@@ -78,21 +62,6 @@ row_at : (rows : List TermRow) (i : ℕ) (term : List ℕ) → slice_get (terms_
 row_at [] i term e = absurd cc
 row_at (row ∷ rows) zero term e = (row, omega arith, refl, cc)
 row_at (row ∷ rows) (suc i) term e = let (d, lt, is, same) = row_at rows i term e in (d, omega (arith, lt), is, same)
-
-abbrev to : List ℕ → TermRow → Ordering
-to term row = order row.term term
-
-rises_to : (rows : List TermRow) (term : List ℕ) → AreTerms rows → IsNonDecreasingBy (λ row. ordering_index (to term row)) rows
-rises_to rows term m i j d le lt =
-    at_or_before rows (λ a b. ordering_index (order a term) ≤ ordering_index (order b term)) m (λ a. omega arith) (λ a b h. index-le a b term h) i j d le lt
-
-absent_is : (rows : List TermRow) (term : List ℕ) (at : ℕ) → IsPartitionPoint (λ row. to term row ≡ Less) (λ row. to term row ≡ Greater) rows at → (i : ℕ) → slice_get (terms_of rows) i ≡ Some term → ⊥
-absent_is rows term at (low, high) i e =
-    let (d, lt, is, same) = row_at rows i term e in
-    let tied : to term (get_or rows i d) ≡ Equal = ap (λ (row : TermRow). order row.term term) is ∙ ap (λ (t : List ℕ). order t term) same ∙ tied_itself bytes_total term in
-    ⊎_elim (λ before. let f : to term (get_or rows i d) ≡ Less = low i d (omega arith) before in absurd (let clash : Less ≡ Equal = sym f ∙ tied in cc))
-    (λ from. let f : to term (get_or rows i d) ≡ Greater = high i d from lt in absurd (let clash : Greater ≡ Equal = sym f ∙ tied in cc))
-    (cases_lt i at)
 
 -- ---- a prefix
 
@@ -233,41 +202,90 @@ point_in text spans P Q at le (low, high) = (
   λ i d from upto. let lt : i < length spans = omega (arith, upto, length-rows_in text spans) in at_row text spans Q i d lt (high i no_span from lt),
 )
 
-pub found_in : (text : List ℕ) (spans : List TermSpan) (term : List ℕ) (i : ℕ) → i < length spans → ((s : TermSpan) → order (term_in text (get_or spans i s)) term ≡ Equal)
-    → slice_get (terms_of (rows_in text spans)) i ≡ Some term
-found_in text spans term i lt ties =
-    term_at text spans i no_span lt ∙ ap (λ (t : List ℕ). Some t) (slice_cmp-IsAntisymmetric nat_cmp-IsAntisymmetric (term_in text (get_or spans i no_span)) term (ties no_span))
+pub found_in : (text : List ℕ) (spans : List TermSpan) (term : List ℕ) (i : ℕ) (s : TermSpan) → i < length spans → s ≡ get_or spans i s → term_in text s ≡ term → slice_get (terms_of (rows_in text spans)) i ≡ Some term
+found_in text spans term i s lt is same =
+    term_at text spans i s lt ∙ ap (λ (x : TermSpan). Some (term_in text x)) (sym is) ∙ ap (λ (t : List ℕ). Some t) same
 
-pub rises_in : (text : List ℕ) (spans : List TermSpan) (term : List ℕ) → AreTerms (rows_in text spans) → IsNonDecreasingBy (λ s. ordering_index (order (term_in text s) term)) spans
-rises_in text spans term m i j d le lt =
-    at_spans text spans (λ r s. ordering_index (to term r) ≤ ordering_index (to term s)) i j d (rises_to (rows_in text spans) term m i j (row_in text d) le (omega (arith, lt, length-rows_in text spans)))
-
-pub absent_in : (text : List ℕ) (spans : List TermSpan) (term : List ℕ) (at : ℕ) → at ≤ length spans
-    → IsPartitionPoint (λ s. order (term_in text s) term ≡ Less) (λ s. order (term_in text s) term ≡ Greater) spans at → (i : ℕ) → slice_get (terms_of (rows_in text spans)) i ≡ Some term → ⊥
-absent_in text spans term at le point = absent_is (rows_in text spans) term at (point_in text spans (λ row. to term row ≡ Less) (λ row. to term row ≡ Greater) at le point)
-
-abbrev pub stands_before : List ℕ → List ℕ → TermSpan → Bool
+abbrev stands_before : List ℕ → List ℕ → TermSpan → Bool
 stands_before text prefix s = is_lt (slice_cmp nat_cmp (term_in text s) prefix)
 
-abbrev pub stands_upto : List ℕ → List ℕ → TermSpan → Bool
+abbrev stands_upto : List ℕ → List ℕ → TermSpan → Bool
 stands_upto text prefix s = is_lt (slice_cmp nat_cmp (term_in text s) prefix) || starts_with nat_eq (term_in text s) prefix
 
 parted : (text : List ℕ) (spans : List TermSpan) (p : TermRow → Bool) → IsPartitionedBy p (rows_in text spans) → IsPartitionedBy (λ s. p (row_in text s)) spans
 parted text spans p parts i j d le lt =
     at_spans text spans (λ r s. p s ≡ true → p r ≡ true) i j d (parts i j (row_in text d) le (omega (arith, lt, length-rows_in text spans)))
 
-pub before_parted : (text : List ℕ) (spans : List TermSpan) (prefix : List ℕ) → AreTerms (rows_in text spans) → IsPartitionedBy (stands_before text prefix) spans
+before_parted : (text : List ℕ) (spans : List TermSpan) (prefix : List ℕ) → AreTerms (rows_in text spans) → IsPartitionedBy (stands_before text prefix) spans
 before_parted text spans prefix m = parted text spans (is_before prefix) (before_parts (rows_in text spans) prefix m)
 
-pub upto_parted : (text : List ℕ) (spans : List TermSpan) (prefix : List ℕ) → AreTerms (rows_in text spans) → IsPartitionedBy (stands_upto text prefix) spans
+upto_parted : (text : List ℕ) (spans : List TermSpan) (prefix : List ℕ) → AreTerms (rows_in text spans) → IsPartitionedBy (stands_upto text prefix) spans
 upto_parted text spans prefix m = parted text spans (is_upto prefix) (upto_parts (rows_in text spans) prefix m)
+
+-- either is one test, by whether what begins with the prefix counts too
+pub parted_by : (text : List ℕ) (spans : List TermSpan) (prefix : List ℕ) (begun : Bool) → AreTerms (rows_in text spans) → IsPartitionedBy (stands_by text prefix begun) spans
+parted_by text spans prefix true m = upto_parted text spans prefix m
+parted_by text spans prefix false m = before_parted text spans prefix m
+
+-- what the span of one row says of those before it, and of those behind it
+pub low_side : (p : TermSpan → Bool) (spans : List TermSpan) (row : ℕ) (s : TermSpan) → IsPartitionedBy p spans → row < length spans → s ≡ get_or spans row s → p s ≡ true
+    → (i : ℕ) (d : TermSpan) → i ≤ row → p (get_or spans i d) ≡ true
+low_side p spans row s parts lt is holds i d le = parts i row d le lt (ap p (lists.get_or_default spans row d s lt ∙ sym is) ∙ holds)
+
+pub high_side : (p : TermSpan → Bool) (spans : List TermSpan) (row : ℕ) (s : TermSpan) → IsPartitionedBy p spans → row < length spans → s ≡ get_or spans row s → p s ≡ false
+    → (i : ℕ) (d : TermSpan) → row ≤ i → i < length spans → p (get_or spans i d) ≡ false
+high_side p spans row s parts lt is fails i d le within =
+    ⊎_elim (λ holds. absurd (not_both (p s) (ap p (is ∙ lists.get_or_default spans row s d lt) ∙ parts row i d le within holds) fails)) (λ no. no) (cases_bool (p (get_or spans i d)))
 
 abbrev pub IsPoint : (TermSpan → Bool) → List TermSpan → ℕ → Type 0
 IsPoint p spans at = IsPartitionPoint (λ s. p s ≡ true) (λ s. p s ≡ false) spans at
 
 pub range_in : (text : List ℕ) (spans : List TermSpan) (prefix : List ℕ) (first behind : ℕ) → first ≤ length spans → behind ≤ length spans
-    → IsPoint (stands_before text prefix) spans first → IsPoint (stands_upto text prefix) spans behind → IsPrefixRange (terms_of (rows_in text spans)) prefix first behind
+    → IsPoint (stands_by text prefix false) spans first → IsPoint (stands_by text prefix true) spans behind → IsPrefixRange (terms_of (rows_in text spans)) prefix first behind
 range_in text spans prefix first behind within1 within2 point1 point2 =
     range_is (rows_in text spans) prefix first behind (omega (arith, within1, length-rows_in text spans)) (omega (arith, within2, length-rows_in text spans))
     (point_in text spans (λ row. is_before prefix row ≡ true) (λ row. is_before prefix row ≡ false) first within1 point1)
     (point_in text spans (λ row. is_upto prefix row ≡ true) (λ row. is_upto prefix row ≡ false) behind within2 point2)
+
+-- the first row that does not stand before a term is not that term, so none is
+absent_at : (rows : List TermRow) (term : List ℕ) (at : ℕ) → AreTerms rows → IsSplit (is_before term) rows at → ((d : TermRow) → at < length rows → (get_or rows at d).term ≡ term → ⊥)
+    → (i : ℕ) → slice_get (terms_of rows) i ≡ Some term → ⊥
+absent_at rows term at m (low, high) other i e =
+    let (d, lt, is, same) = row_at rows i term e in
+    let here : (get_or rows i d).term ≡ term = ap (λ (row : TermRow). row.term) is ∙ same in
+    let tied : order (get_or rows i d).term term ≡ Equal = ap (λ (t : List ℕ). order t term) here ∙ tied_itself bytes_total term in
+    ⊎_elim (λ before. let f : order (get_or rows i d).term term ≡ Less = less_is _ (low i d (omega arith) before) in absurd (let clash : Less ≡ Equal = sym f ∙ tied in cc))
+    (λ from. ⊎_elim
+    (λ above. let f : order (get_or rows at d).term term ≡ Less = subst (λ (t : List ℕ). Precedes (get_or rows at d).term t) here (rising [] rows m at i d above lt) in
+    not_both (is_before term (get_or rows at d)) (ap is_lt f) (high at d (omega arith) (omega (arith, above, lt))))
+    (λ le. let e : i ≡ at = omega (arith, from, le) in other d (omega (arith, from, le, lt)) (subst (λ (k : ℕ). (get_or rows k d).term ≡ term) e here))
+    (cases_lt at i))
+    (cases_lt i at)
+
+pub absent_in : (text : List ℕ) (spans : List TermSpan) (term : List ℕ) (at : ℕ) → AreTerms (rows_in text spans) → at ≤ length spans → IsPoint (stands_by text term false) spans at
+    → ((s : TermSpan) → at < length spans → term_in text (get_or spans at s) ≡ term → ⊥) → (i : ℕ) → slice_get (terms_of (rows_in text spans)) i ≡ Some term → ⊥
+absent_in text spans term at m le point other =
+    absent_at (rows_in text spans) term at m (point_in text spans (λ row. is_before term row ≡ true) (λ row. is_before term row ≡ false) at le point)
+    (λ d lt same. let within : at < length spans = omega (arith, lt, length-rows_in text spans) in
+    other no_span within (sym (ap (λ (row : TermRow). row.term) (lists.get_or-map (row_in text) spans at no_span d within)) ∙ same))
+
+pub differs : (a t : List ℕ) → bytes_eq a t ≡ false → a ≡ t → ⊥
+differs a t other same = not_both (bytes_eq a t) (ap (λ (x : List ℕ). bytes_eq x t) same ∙ itself t) other
+
+-- ---- the term of ends
+
+any_at : (rows : List TermRow) (i : ℕ) → slice_get (terms_of rows) i ≡ Some (68 ∷ []) → list_any is_end rows ≡ true
+any_at [] i e = absurd cc
+any_at (row ∷ rows) zero e = let same : row.term ≡ 68 ∷ [] = cc in rw same refl
+any_at (row ∷ rows) (suc i) e = or_right (is_end row) (list_any is_end rows) (any_at rows i e)
+
+none_at : (rows : List TermRow) → ((i : ℕ) → slice_get (terms_of rows) i ≡ Some (68 ∷ []) → ⊥) → list_any is_end rows ≡ false
+none_at [] none = refl
+none_at (row ∷ rows) none =
+    ⊎_elim (λ (ends : is_end row ≡ true). absurd (none 0 (ap (λ (t : List ℕ). Some t) (same_term row.term (68 ∷ []) ends))))
+    (λ (other : is_end row ≡ false). rw other (none_at rows (λ i. none (suc i))))
+    (cases_bool (is_end row))
+
+pub has_end_is : (rows : List TermRow) (found : Option ℕ) → MatchOption found ((i : ℕ) → slice_get (terms_of rows) i ≡ Some (68 ∷ []) → ⊥) (λ i. slice_get (terms_of rows) i ≡ Some (68 ∷ [])) → is_some found ≡ list_any is_end rows
+has_end_is rows None none = sym (none_at rows none)
+has_end_is rows (Some i) here = sym (any_at rows i here)

@@ -1,13 +1,13 @@
 -- Terms that stand in one text.
 use Rattle.std.proofs.Common.{◌≡◌, ℕ, zero, suc, ◌+◌, ◌≤◌, ◌<◌, List, [], ◌∷◌, ◌++◌, length, get_or, take, drop, Some, refl, sym, ap, subst, ◌∙◌, arith, length-drop, take-append-drop}
 use Rattle.std.specs.Prelude.{slice_get}
-use Rattle.std.specs.List.{All, list_any}
+use Rattle.std.specs.List.{All}
 use Rattle.std.proofs.lemmas.List.{drop-append-le, take-append-le, map-append}
 use Rattle.std.proofs.lemmas.List.Elements.{All-push}
 use Rattle.alta_table.specs.declared.span.TermSpan.{TermSpan}
 use Rattle.alta_table.specs.declared.term.TermRow.{TermRow}
 use Rattle.alta_table.specs.Places.{term_in, row_in, rows_in, places_in, GrowsBy}
-use Rattle.alta_table.specs.Terms.{terms_of, counts_of, is_end}
+use Rattle.alta_table.specs.Terms.{terms_of, counts_of}
 
 -- the span ends within the text
 abbrev pub LiesIn : List ℕ → TermSpan → Type 0
@@ -66,7 +66,3 @@ count_at text (x ∷ spans) (suc i) s lt = count_at text spans i s (omega (arith
 pub length-rows_in : (text : List ℕ) (spans : List TermSpan) → length (rows_in text spans) ≡ length spans
 length-rows_in text [] = refl
 length-rows_in text (s ∷ spans) = ap suc (length-rows_in text spans)
-
-pub any_end : (text : List ℕ) (spans : List TermSpan) → list_any (λ (s : TermSpan). is_end (row_in text s)) spans ≡ list_any is_end (rows_in text spans)
-any_end text [] = refl
-any_end text (s ∷ spans) = rw (any_end text spans) refl

@@ -6,6 +6,7 @@ use Rattle.alta_content.specs.declared.document.DocRow.{DocRow}
 use Rattle.alta_table.specs.declared.parts.Parts.{Parts}
 use Rattle.alta_table.specs.declared.span.TermSpan.{TermSpan}
 use Rattle.alta_table.specs.declared.term.TermRow.{TermRow}
+use Rattle.alta_table.specs.Packed.{spans_in}
 use Rattle.alta_table.specs.Documents.{row_bytes, documents_bytes}
 use Rattle.alta_content.specs.Rows.{Before, behind_row, start}
 use Rattle.alta_table.specs.Terms.{streams_of, summaries_of, data_of}
@@ -63,11 +64,11 @@ stream_places from [] = []
 stream_places from (row ∷ rows) = from ∷ stream_places (from + data_of row) rows
 
 abbrev pub tables_in : Parts → Tables
-tables_in p = record { place = p.place; documents = p.documents.value; terms = rows_in p.text.items p.spans.items }
+tables_in p = record { place = p.place; documents = p.documents.value; terms = rows_in p.text.items (spans_in p.spans) }
 
 -- the rows have their places beside them and keep the rules of a segment, which ends on the disk
 pub record AreParts (p : Parts) : Type 0 where
   pub names_are : p.names.items ≡ name_places (p.place + 32) start p.documents.value
-  pub streams_are : places_in p.spans.items ≡ stream_places (p.place + length (tables_bytes p.documents.value (rows_in p.text.items p.spans.items))) (rows_in p.text.items p.spans.items)
-  pub keeps : KeepRules (total_of p.documents.value (rows_in p.text.items p.spans.items)) p.documents.value (rows_in p.text.items p.spans.items)
-  pub below : p.place + total_of p.documents.value (rows_in p.text.items p.spans.items) < 2 ^ 64
+  pub streams_are : places_in (spans_in p.spans) ≡ stream_places (p.place + length (tables_bytes p.documents.value (rows_in p.text.items (spans_in p.spans)))) (rows_in p.text.items (spans_in p.spans))
+  pub keeps : KeepRules (total_of p.documents.value (rows_in p.text.items (spans_in p.spans))) p.documents.value (rows_in p.text.items (spans_in p.spans))
+  pub below : p.place + total_of p.documents.value (rows_in p.text.items (spans_in p.spans)) < 2 ^ 64

@@ -9,6 +9,7 @@ mod documents;
 mod fault;
 mod heading;
 mod laws;
+mod packed;
 mod parts;
 mod search;
 mod sizes;

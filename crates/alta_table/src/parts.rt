@@ -1,5 +1,5 @@
 // What the tables of a segment have, as they are kept in memory.
-use crate::span::TermSpan;
+use crate::packed::Spans;
 use alta_content::LevelRows;
 use std::rc::Rc;
 
@@ -11,5 +11,5 @@ pub struct Parts {
     pub documents: Rc<LevelRows>,
     pub names: Vec<u64>,
     pub text: Vec<u8>,
-    pub spans: Vec<TermSpan>,
+    pub spans: Spans,
 }

@@ -1,53 +1,71 @@
 // Looking for terms by halves.
-ghost use Rattle.std.specs.Prelude.{◌≡◌, ◌||◌, ℕ, Some, MatchOption, nat_eq, slice_get};
+ghost use Rattle.std.specs.Prelude.{◌≡◌, ◌||◌, ◌≤◌, ℕ, Bool, Some, MatchOption, length, nat_eq, slice_get, if◌then◌else◌, true, false};
 ghost use Rattle.std.specs.Cmp.Lexicographic.{slice_cmp};
 ghost use Rattle.std.specs.List.{starts_with};
+ghost use Rattle.std.specs.List.Sorted.{IsPartitionPoint};
 ghost use Rattle.std.specs.Ordering.{is_lt, nat_cmp};
+ghost use Rattle.alta_table.specs.Packed.{spans_in};
 ghost use Rattle.alta_table.specs.Terms.{AreTerms, terms_of};
 ghost use Rattle.alta_table.specs.Places.{rows_in, term_in};
-ghost use Rattle.alta_table.specs.Search.{IsPrefixRange};
+ghost use Rattle.alta_table.specs.Search.{IsPrefixRange, stands_by};
 
+use crate::packed::Spans;
 use crate::span::{TermSpan, term_of};
-use std::cmp::Ordering;
 
-// How the span's term stands to another.
-fn order(text: &[u8], span: &TermSpan, term: &[u8]) -> Ordering
-    ensures { result ≡ slice_cmp nat_cmp (term_in text.now span.now) term.now }
+// Whether the span's term stands before a prefix or, where those `begun` count too, begins with it.
+fn stands(text: &[u8], span: &TermSpan, prefix: &[u8], begun: bool) -> bool
+    ensures { result ≡ stands_by text.now prefix.now begun span.now }
 {
-    term_of(text, span).cmp(term)
+    let term = term_of(text, span);
+    let before = term.cmp(prefix).is_lt();
+    if begun {
+        before || term.starts_with(prefix)
+    } else {
+        before
+    }
 }
 
-// Whether the span's term stands before the prefix.
-fn is_before(text: &[u8], span: &TermSpan, prefix: &[u8]) -> bool
-    ensures { result ≡ is_lt (slice_cmp nat_cmp (term_in text.now span.now) prefix.now) }
+// How many of the first spans stand so.
+fn point(text: &[u8], spans: &Spans, prefix: &[u8], begun: bool) -> usize
+    requires { AreTerms (rows_in text.now (spans_in spans.now)) }
+    ensures within { result ≤ length (spans_in spans.now) }
+    ensures point { IsPartitionPoint (λ span. stands_by text.now prefix.now begun span ≡ true) (λ span. stands_by text.now prefix.now begun span ≡ false) (spans_in spans.now) result }
 {
-    order(text, span, prefix).is_lt()
-}
-
-// Whether the span's term stands before the prefix or begins with it.
-fn is_up_to(text: &[u8], span: &TermSpan, prefix: &[u8]) -> bool
-    ensures { result ≡ (is_lt (slice_cmp nat_cmp (term_in text.now span.now) prefix.now) || starts_with nat_eq (term_in text.now span.now) prefix.now) }
-{
-    is_before(text, span, prefix) || term_of(text, span).starts_with(prefix)
+    let mut low = 0;
+    let mut high = spans.len();
+    'halve: while low < high {
+        let middle = low + (high - low) / 2;
+        if stands(text, &spans.get(middle), prefix, begun) {
+            low = middle + 1;
+        } else {
+            high = middle;
+        }
+    }
+    low
 }
 
 /// The row of a term, None exactly where it is not there.
-pub fn find_in(text: &[u8], spans: &[TermSpan], term: &[u8]) -> Option<usize>
-    requires { AreTerms (rows_in text.now spans.now) }
-    ensures { MatchOption result ((i : ℕ) → slice_get (terms_of (rows_in text.now spans.now)) i ≡ Some term.now → ⊥) (λ i. slice_get (terms_of (rows_in text.now spans.now)) i ≡ Some term.now) }
+pub fn find_in(text: &[u8], spans: &Spans, term: &[u8]) -> Option<usize>
+    requires { AreTerms (rows_in text.now (spans_in spans.now)) }
+    ensures { MatchOption result ((i : ℕ) → slice_get (terms_of (rows_in text.now (spans_in spans.now))) i ≡ Some term.now → ⊥) (λ i. slice_get (terms_of (rows_in text.now (spans_in spans.now))) i ≡ Some term.now) }
 {
-    match spans.binary_search_by(|span| order(text, span, term)) {
-        Ok(row) => Some(row),
-        Err(_place) => None,
+    let row = point(text, spans, term, false);
+    if row >= spans.len() {
+        return None;
+    }
+    if term_of(text, &spans.get(row)) == term {
+        Some(row)
+    } else {
+        None
     }
 }
 
 /// The first row whose term begins with the prefix, and the row behind the last.
-pub fn prefixed_in(text: &[u8], spans: &[TermSpan], prefix: &[u8]) -> (usize, usize)
-    requires { AreTerms (rows_in text.now spans.now) }
-    ensures { IsPrefixRange (terms_of (rows_in text.now spans.now)) prefix.now result.0 result.1 }
+pub fn prefixed_in(text: &[u8], spans: &Spans, prefix: &[u8]) -> (usize, usize)
+    requires { AreTerms (rows_in text.now (spans_in spans.now)) }
+    ensures { IsPrefixRange (terms_of (rows_in text.now (spans_in spans.now))) prefix.now result.0 result.1 }
 {
-    let first = spans.partition_point(|span| is_before(text, span, prefix));
-    let behind = spans.partition_point(|span| is_up_to(text, span, prefix));
+    let first = point(text, spans, prefix, false);
+    let behind = point(text, spans, prefix, true);
     (first, behind)
 }

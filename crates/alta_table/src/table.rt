@@ -4,8 +4,9 @@ ghost use Rattle.std.specs.List.{list_any, starts_with};
 ghost use Rattle.alta_table.specs.Answers.{Answers, IfDamaged, IsDamaged, IsFound};
 ghost use Rattle.alta_codec.specs.Rising.{IsRising};
 ghost use Rattle.alta_content.specs.Rows.{ends_of, start};
-ghost use Rattle.alta_table.specs.Terms.{counts_of, data_bytes, is_end, terms_of};
+ghost use Rattle.alta_table.specs.Terms.{AreTerms, counts_of, data_bytes, is_end, terms_of};
 ghost use Rattle.alta_table.specs.Tables.{AreTables, IsDamage, KeepRules, Tables, read_head, tables_bytes, tables_of, total_of};
+ghost use Rattle.alta_table.specs.Packed.{spans_in};
 ghost use Rattle.alta_table.specs.Places.{name_place, name_places, places_in, row_in, rows_in, stream_extent, stream_places, summary_extent, tables_in};
 ghost use Rattle.alta_table.specs.Search.{IsPrefixRange};
 ghost use Rattle.alta_table.specs.declared.sizes.Head.{Head};
@@ -13,9 +14,10 @@ ghost use Rattle.alta_table.specs.declared.sizes.Head.{Head};
 use crate::documents::read_documents;
 use crate::fault::LevelFault;
 use crate::heading::head;
+use crate::packed::Spans;
 use crate::parts::Parts;
 use crate::search::{find_in, prefixed_in};
-use crate::span::{TermSpan, term_of};
+use crate::span::term_of;
 use crate::terms::read_terms;
 use alta_codec::Extent;
 use alta_content::{DocRow, LevelRows};
@@ -41,24 +43,12 @@ impl Model for OpenLevel {
     ghost invariant = { λ t. AreParts t.parts };
 }
 
-// Whether the span's term is the one at which documents end.
-fn ends(text: &[u8], span: &TermSpan) -> bool
-    ensures { result ≡ is_end (row_in text.now span.now) }
-{
-    term_of(text, span) == b"D".as_slice()
-}
-
-fn any_ends(text: &[u8], spans: &[TermSpan]) -> bool
-    ensures { result ≡ list_any (λ span. is_end (row_in text.now span)) spans.now }
-{
-    spans.iter().any(|span| ends(text, span))
-}
-
 // Whether there is the term at which documents end.
-fn has_end(text: &[u8], spans: &[TermSpan]) -> bool
-    ensures { result ≡ list_any is_end (rows_in text.now spans.now) }
+fn has_end(text: &[u8], spans: &Spans) -> bool
+    requires { AreTerms (rows_in text.now (spans_in spans.now)) }
+    ensures { result ≡ list_any is_end (rows_in text.now (spans_in spans.now)) }
 {
-    any_ends(text, spans)
+    find_in(text, spans, b"D").is_some()
 }
 
 // Rows of documents, to be shared.
@@ -79,7 +69,7 @@ fn opened(alloc: Global, bytes: &[u8], place: u64, total: u64) -> Result<Parts, 
     requires whole { (h : Head) → read_head bytes.now place total ≡ Ok h → length bytes.now ≡ 32 + h.document_bytes + h.term_bytes }
     ensures exact { Answers tables_in result (tables_of bytes.now place total) }
     ensures names { IfOk result (λ p. p.names.items ≡ name_places (place + 32) start p.documents.value) }
-    ensures streams { IfOk result (λ p. places_in p.spans.items ≡ stream_places (place + total - data_bytes (rows_in p.text.items p.spans.items)) (rows_in p.text.items p.spans.items)) }
+    ensures streams { IfOk result (λ p. places_in (spans_in p.spans) ≡ stream_places (place + total - data_bytes (rows_in p.text.items (spans_in p.spans))) (rows_in p.text.items (spans_in p.spans))) }
 {
     let head = head(bytes, place, total)?;
     let (_front, tables) = bytes.split_at(32);
@@ -185,7 +175,7 @@ impl OpenLevel {
         requires { row < length self.now.terms }
         ensures { slice_get (terms_of self.now.terms) row ≡ Some result.now }
     {
-        term_of(&self.parts.text, &self.parts.spans[row])
+        term_of(&self.parts.text, &self.parts.spans.get(row))
     }
 
     /// At how many locations the term of a row stands, as its row says.
@@ -193,7 +183,7 @@ impl OpenLevel {
         requires { row < length self.now.terms }
         ensures { result ≡ slice_index (counts_of self.now.terms) row }
     {
-        self.parts.spans[row].count
+        self.parts.spans.get(row).count
     }
 
     /// The row of a term, None exactly where it is not there. It looks by halves.
@@ -220,7 +210,7 @@ impl OpenLevel {
         ensures beside { result.1.place ≡ result.0.place + result.0.bytes }
         ensures within { result.1.place + result.1.bytes ≤ self.now.place + total_of self.now.documents self.now.terms }
     {
-        let span = &self.parts.spans[row];
+        let span = self.parts.spans.get(row);
         (
             Extent {
                 place: span.place,

@@ -3,11 +3,13 @@ ghost use Rattle.std.specs.Prelude.{◌≡◌, ℕ, ◌+◌, ◌-◌, ◌<◌, �
 ghost use Rattle.alta_format.specs.Gives.{Gives};
 ghost use Rattle.alta_format.specs.Format.{read, part};
 ghost use Rattle.alta_table.specs.Answers.{Answers};
+ghost use Rattle.alta_table.specs.Packed.{spans_in};
 ghost use Rattle.alta_table.specs.Places.{GrowsBy, places_in, row_in, rows_in, stream_places, term_in};
-ghost use Rattle.alta_table.specs.Terms.{is_rest_len, continues, data_bytes, entry_row, term_format, terms_format};
+ghost use Rattle.alta_table.specs.Terms.{AreTerms, is_rest_len, continues, data_bytes, entry_row, term_format, terms_format};
 ghost use Rattle.alta_content.specs.Lists.{is_kind};
 
 use crate::fault::LevelFault;
+use crate::packed::Spans;
 use crate::span::TermSpan;
 use alta_format::{ReadFault, packed_at, text_at};
 use std::alloc::{AllocError, Global};
@@ -20,7 +22,7 @@ const LONGEST: usize = 129;
 #[derive(Drop)]
 pub struct TermPart {
     pub text: Vec<u8>,
-    pub spans: Vec<TermSpan>,
+    pub spans: Spans,
     pub left: u64,
 }
 
@@ -184,12 +186,13 @@ fn rows_of(
     bytes: &[u8],
 ) -> Result<TermPart, ReadFault>
     requires { room ≤ end }
-    ensures gives { Gives (λ part. ((rows_in part.text.items part.spans.items, part.left), [])) result (read (terms_format count room) bytes.now) }
-    ensures streams { IfOk result (λ part. places_in part.spans.items ≡ stream_places (end - room) (rows_in part.text.items part.spans.items)) }
-    ensures left { IfOk result (λ part. part.left + data_bytes (rows_in part.text.items part.spans.items) ≡ room) }
+    ensures gives { Gives (λ part. ((rows_in part.text.items (spans_in part.spans), part.left), [])) result (read (terms_format count room) bytes.now) }
+    ensures streams { IfOk result (λ part. places_in (spans_in part.spans) ≡ stream_places (end - room) (rows_in part.text.items (spans_in part.spans))) }
+    ensures left { IfOk result (λ part. part.left + data_bytes (rows_in part.text.items (spans_in part.spans)) ≡ room) }
 {
     let mut text = Vec::with_capacity(alloc, bytes.len())?;
-    let mut spans = Vec::with_capacity(alloc, (bytes.len() as u64 / 6).min(count) as usize)?;
+    let most = (bytes.len() as u64 / 6).min(count) as usize;
+    let mut spans = Spans::with_capacity(alloc, most, end - room)?;
     let mut before = [0u8; LONGEST];
     let mut len = 0;
     let mut left = room;
@@ -223,9 +226,10 @@ pub fn read_terms(
 ) -> Result<TermPart, LevelFault>
     requires room { room ≤ end }
     requires below { place + length bytes.now < 2 ^ 64 }
-    ensures exact { Answers (λ x. (rows_in x.text.items x.spans.items, x.left)) result (part (terms_format count room) bytes.now place) }
-    ensures streams { IfOk result (λ x. places_in x.spans.items ≡ stream_places (end - room) (rows_in x.text.items x.spans.items)) }
-    ensures left { IfOk result (λ x. x.left + data_bytes (rows_in x.text.items x.spans.items) ≡ room) }
+    ensures exact { Answers (λ x. (rows_in x.text.items (spans_in x.spans), x.left)) result (part (terms_format count room) bytes.now place) }
+    ensures stand { IfOk result (λ x. AreTerms (rows_in x.text.items (spans_in x.spans))) }
+    ensures streams { IfOk result (λ x. places_in (spans_in x.spans) ≡ stream_places (end - room) (rows_in x.text.items (spans_in x.spans))) }
+    ensures left { IfOk result (λ x. x.left + data_bytes (rows_in x.text.items (spans_in x.spans)) ≡ room) }
 {
     match rows_of(alloc, count, room, end, bytes) {
         Ok(found) => Ok(found),
