@@ -116,7 +116,7 @@ pub(crate) fn plan(alloc: Global, text: &str) -> Result<String, Fail> {
 }
 
 /// The plan of a query.
-pub(crate) fn plan_of(alloc: Global, query: Query) -> Result<String, Fail> {
+fn plan_of(alloc: Global, query: Query) -> Result<String, Fail> {
     let compiled = compile(alloc, &query);
     drop(query);
     let plan = compiled?;
