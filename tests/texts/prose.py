@@ -20,12 +20,15 @@ DOCUMENTS = [
     "docs/alta.1",
     "docs/ARCHITECTURE.md",
     "docs/DECISIONS.md",
+    "docs/FIGURES.md",
     "docs/FORMAT.md",
     "docs/GUARANTEES.md",
     "docs/GUIDE.md",
     "docs/PLAN.md",
     "docs/QUERIES.md",
     "docs/READING.md",
+    "docs/SCALE.md",
+    "tests/README.md",
 ]
 MOST = 40  # words of a sentence
 # What these point at has to be named.

@@ -8,7 +8,7 @@ register says of each of these whether it touches a disk or a console, which is 
 
 No crate, no file and no heading of docs/FIGURES.md is named in the documents below that is not there. docs/READING.md names each
 file of definitions to which the contract of `alta` leads by `use` lines, so that a reader of that page has read all that the
-contract says: in the tables those of which a definition is reached from the contract, with words that they define, and apart from
+contract says: in the lists those of which a definition is reached from the contract, with words that they define, and apart from
 these the others. The functions of its theorems stand in the files that it names beside them.
 """
 
@@ -38,7 +38,7 @@ INSIDE = re.compile(r"^(?:(?:\w+ )*mutual$|module )")
 DEFINITION = re.compile(r"^((?:(?:pub|abbrev|unfoldable|record|data) +)+)([\w◌>=]+)")
 CASE = re.compile(r"^ +([\w']+) :")
 WORD = re.compile(r"[\w']+|>>=")
-READ = re.compile(r"^\| `(\w+/(?:specs|src)/\w+\.\w+)` \| ([^|]*) \|", re.MULTILINE)
+READ = re.compile(r"^(?:- |\| )`(\w+/(?:specs|src)/\w+\.\w+)` (?:\(|\| )([^|)]*)(?:\):| \|)", re.MULTILINE)
 THEOREMS = re.compile(r"((?:`[\w:]+`(?: \(clause `\w+`\))?(?:, )?)+) (?:\(|in )`(\w+/src/\w+\.rt)`")
 
 
@@ -216,10 +216,10 @@ def reading_faults(files, text, text_of, reached):
     """What the page for readers leaves out of these files, and which of its words are not where it says."""
     faults = [f"{READING}: {path} is not named" for path in files if f"`{path[len('crates/'):]}`" not in text]
     rows = [("crates/" + path, CODE.findall(words)) for path, words in READ.findall(text)]
-    tables = {path for path, _ in rows}
+    listed = {path for path, _ in rows}
     for path in files:
-        if f"`{path[len('crates/'):]}`" in text and (path in tables) != (path in reached):
-            faults.append(f"{READING}: {path} is " + ("reached and in no table" if path in reached else "in a table and not reached"))
+        if f"`{path[len('crates/'):]}`" in text and (path in listed) != (path in reached):
+            faults.append(f"{READING}: {path} is " + ("reached and in no list" if path in reached else "in a list and not reached"))
     for path, words in rows:
         there = text_of(path) or ""
         known = set(definitions(there)[0]) if path.endswith(".antt") else set(WORD.findall(there))
@@ -297,7 +297,7 @@ second = w
 """
 
 PAGE = """
-| `alta_a/specs/One.antt` | `x`, `y` | it |
+- `alta_a/specs/One.antt` (`x`, `y`): it
 | `alta_b/specs/Three.antt` | `w` | it |
 | `it_holds`, `it_fails` (`alta_b/src/laws.rt`) | it |
 """
@@ -355,7 +355,7 @@ def test_reading():
     fails("use lines", found, [f"crates/{path}.antt" for path in ("alta_a/specs/One", "alta_b/specs/Three", "alta_b/specs/Two")])
     reached = reached_from("top", files.get)
     fails("what is reached", reached, {"crates/alta_a/specs/One.antt": {"x"}, "crates/alta_b/specs/Two.antt": {"D"}})
-    want = ["crates/alta_b/specs/Two.antt is not named", "crates/alta_b/specs/Three.antt is in a table and not reached"]
+    want = ["crates/alta_b/specs/Two.antt is not named", "crates/alta_b/specs/Three.antt is in a list and not reached"]
     want += ["crates/alta_a/specs/One.antt does not define `y`", "there is no it_fails in alta_b/src/laws.rt"]
     fails("reading", reading_faults(found, PAGE, files.get, reached), [f"{READING}: {fault}" for fault in want])
 
