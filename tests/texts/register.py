@@ -6,7 +6,7 @@ order, each once, under the headings of the layers, and no other document has a 
 above its own, as crates.txt has it. The drawing of the layers has each crate of the program once, in the layer of its heading. The
 register says of each of these whether it touches a disk or a console, which is whether its sources use these.
 
-No crate, no file and no heading of docs/FIGURES.md is named in the documents below that is not there. docs/READING.md names each
+No crate, no file and no part of a document is named in the documents below that is not there. docs/READING.md names each
 file of definitions to which the contract of `alta` leads by `use` lines, so that a reader of that page has read all that the
 contract says: in the lists those of which a definition is reached from the contract, with words that they define, and apart from
 these the others. The functions of its theorems stand in the files that it names beside them.
@@ -21,6 +21,7 @@ STATEMENTS = "docs/GUARANTEES.md"
 READING = "docs/READING.md"
 FIGURES = "docs/FIGURES.md"
 OTHERS = ["README.md", "CONTRIBUTING.md", "docs/DECISIONS.md", "docs/PLAN.md", "docs/FORMAT.md", "docs/QUERIES.md"]
+OTHERS += ["docs/GUIDE.md", "docs/SCALE.md"]
 DOCUMENTS = [REGISTER, STATEMENTS, READING, FIGURES] + OTHERS
 CONTRACT = "crates/alta_session/src/top.rt"
 ROW = re.compile(r"^\| `?((?:alta|check|bench)_\w+)`? \|", re.MULTILINE)
@@ -30,8 +31,8 @@ CODE = re.compile(r"`[^`\n]*`")
 ALTA = re.compile(r"\balta_[a-z]+\b")
 PLAIN = re.compile(r"\b(?:alta|check|bench)_[a-z]+\b")  # in code `check_list` and the like are calls
 PATH = re.compile(r"`((?:[\w.-]+/)+[\w-]+\.\w+)`")
-HEADING = re.compile(r"^\*\*([^*]+)\.\*\*", re.MULTILINE)
-MEASURED = re.compile(r'`docs/FIGURES\.md`, "([^"]+)"')
+HEADING = re.compile(r"^(?:#+ (.+)|\*\*([^*]+)\.\*\*)", re.MULTILINE)
+NAMED_PART = re.compile(r'`((?:docs/)?[A-Z]+\.md)`,\s+"([^"]+)"')
 USE = re.compile(r"^\s*(?:ghost )?use Rattle\.(\w+)\.specs\.(\w+)", re.MULTILINE)
 NAMES = re.compile(r"^\s*(?:ghost |pub )*use Rattle\.(\w+)\.specs\.(\w+)\.\{([^}]*)\}", re.MULTILINE)
 INSIDE = re.compile(r"^(?:(?:\w+ )*mutual$|module )")
@@ -135,7 +136,6 @@ def named(text):
 def faults_in(crates, texts, exists):
     """The faults of these documents, paths with their texts; `exists` tells whether a path of the repository is there."""
     faults = register_faults(crates, texts[REGISTER])
-    headings = HEADING.findall(texts[FIGURES])
     for path, text in texts.items():
         faults += [f"{path}: {name} is no crate" for name in sorted(named(text) - set(crates))]
         faults += [f"{path}: {name} has a row, which belongs into the register" for name in ROW.findall(text) if path != REGISTER]
@@ -144,8 +144,15 @@ def faults_in(crates, texts, exists):
             for file in sorted(set(PATH.findall(text)))
             if not exists(file) and not exists("crates/" + file)
         ]
-        faults += [f"{path}: no figures are headed {name}" for name in MEASURED.findall(text) if name not in headings]
+        faults += [f"{path}: nothing in {other} is headed {name}" for other, name in lost_parts(text, texts)]
     return faults
+
+
+def lost_parts(text, texts):
+    """The parts of documents that a text names and that are not there, as `docs/GUIDE.md`, "Updates"."""
+    headings = {path: {" ".join(found) for found in map(str.split, map("".join, HEADING.findall(there)))} for path, there in texts.items()}
+    named = [(path, " ".join(name.split())) for path, name in NAMED_PART.findall(text)]
+    return [(path, name) for path, name in named if path in headings and name not in headings[path]]
 
 
 def led_to(start, text_of):
@@ -337,7 +344,7 @@ def test_itself():
     fails("what is touched", touch_faults(good, used), [f"{REGISTER}: alta_b touches console"])
     texts = {REGISTER: good, STATEMENTS: STATED, FIGURES: "**Adds.** `bench/adds.py`, **not Sums.**\n"}
     want = ["alta_z is no crate", "check_y is no crate", "check_c has a row, which belongs into the register"]
-    want += ["there is no alta_a/specs/No.antt", "no figures are headed Sums"]
+    want += ["there is no alta_a/specs/No.antt", f"nothing in {FIGURES} is headed Sums"]
     there = ("tests/a.py", "bench/adds.py", FIGURES)
     fails("names", faults_in(crates, texts, lambda path: path in there), [f"{STATEMENTS}: {fault}" for fault in want])
 
