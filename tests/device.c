@@ -5,8 +5,8 @@
 // was written since. A sync copies the dirty pages to the device. One that fails copies none, and the pages count as written all the
 // same, as Linux has it: a later sync leaves them out.
 //
-// EDGE_FILE names the file. EDGE_FAIL is the number of the sync, from 1, from which on each fails; EDGE_STOP that of the sync behind
-// which the process is killed. EDGE_FOLDER is the error of each sync of a folder. EDGE_INTERRUPT is a call that fails once as interrupted.
+// EDGE_FILE names the file. EDGE_FAIL is the number of the sync, from 1, from which on each fails; EDGE_DIE that of one that fails, and
+// inside of which the process is killed; EDGE_STOP that of the sync behind which it is killed. EDGE_FOLDER is the error of each sync of a folder. EDGE_INTERRUPT is a call that fails once as interrupted.
 // EDGE_BLOCK makes the file a block device, of which the system tells no length. `log` in the folder has a line for each sync.
 #define _GNU_SOURCE
 #include <dlfcn.h>
@@ -102,8 +102,11 @@ int fdatasync(int fd) {
         return 0;
     syncs++;
     say("fdatasync", fd);
-    int fails = number("EDGE_FAIL") && syncs >= number("EDGE_FAIL");
-    if (settle(fd, fails) && fails) {
+    int dies = syncs == number("EDGE_DIE"), fails = dies || (number("EDGE_FAIL") && syncs >= number("EDGE_FAIL"));
+    int failed = settle(fd, fails) && fails;
+    if (dies)
+        raise(SIGKILL);
+    if (failed) {
         errno = EIO;
         return -1;
     }

@@ -287,12 +287,20 @@ class Device(Edge):
         for failing in range(1, self.syncs_of(ADDS) + 1):
             for stopping in range(1, 10):
                 with self.subTest(failing=failing, stopping=stopping):
-                    self.fail_and_stop(failing, stopping)
+                    self.go_on_and_stop(2, stopping, fail=failing)
 
-    def fail_and_stop(self, failing, stopping):
+    def test_a_program_killed_inside_of_a_sync_that_fails_and_another_run(self):
+        """The same, where the program is killed before it hears of the failure."""
+        for dying in range(1, self.syncs_of(ADDS) + 1):
+            for stopping in range(1, 10):
+                with self.subTest(dying=dying, stopping=stopping):
+                    self.go_on_and_stop(-signal.SIGKILL, stopping, die=dying)
+
+    def go_on_and_stop(self, ends, stopping, **fault):
+        """A run ends so by a fault of the device, and the machine stops behind a sync of the next run: no answered document is lost."""
         self.begin()
-        status, given, _ = run(self.path, "run", given=text(ADDS), **self.on_device(fail=failing))
-        self.assertEqual(status, 2)
+        status, given, _ = run(self.path, "run", given=text(ADDS), **self.on_device(**fault))
+        self.assertEqual(status, ends)
         answered = self.names(given, ADDS)
         _, given, _ = run(self.path, "run", given=text(LATER), **self.on_device(stop=stopping))
         answered |= self.names(given, LATER)

@@ -187,12 +187,25 @@ def said_of(machine):
     return Said(0, "".join(map(machine.reply, ASKING)).encode(), b"")
 
 
+def changing(start, calls):
+    """These calls without those that write again what stands there, as the program does with the head. A device leaves bytes that do not
+    change as they are. A gate that is written as it stands counts all the same."""
+    content, found = bytearray(written(start.firm, start.pending)), []
+    for call in calls:
+        if call.kind is Kind.WRITE:
+            if len(call.content) >= SECTOR and content[call.place : call.place + len(call.content)] == call.content:
+                continue
+            put(content, call.place, call.content)
+        found.append(call)
+    return found
+
+
 def recording_of_init(program, path):
     """The making of an index: up to its end there is none, or one without documents."""
-    end = b"end"
-    calls = traced_calls(program, path, ["init"]) + [Call(Kind.REPLY, 0, end)]
+    end, start = b"end", Moment(b"", (), 0)
+    calls = changing(start, traced_calls(program, path, ["init"])) + [Call(Kind.REPLY, 0, end)]
     wanted = [Said(7, b"", b"alta: no index\n"), said_of(Machine([]))]
-    return Recording("init", Moment(b"", (), 0), calls, ["init"], [end], wanted)
+    return Recording("init", start, calls, ["init"], [end], wanted)
 
 
 def recording_of_run(program, path, name, start, machine, lines):
@@ -201,7 +214,7 @@ def recording_of_run(program, path, name, start, machine, lines):
     for line in lines:
         replies.append(machine.reply(line).encode())
         wanted.append(said_of(machine))
-    calls = traced_calls(program, path, ["run"], lines)
+    calls = changing(start, traced_calls(program, path, ["run"], lines))
     given = b"".join(call.content for call in calls if call.kind is Kind.REPLY)
     if given != b"".join(replies):
         raise SystemExit(f"power: the traced {name} answered {given!r}")
@@ -212,7 +225,8 @@ def recording_behind_a_kill(program, path, recording, sync):
     """A run over an index whose last program was killed as it came to its so manieth sync."""
     with open(path, "wb") as file:
         file.write(recording.start.firm)
-    before = moments(recording.start, traced_calls(program, path, ["run"], recording.lines, sync))[-1]
+    calls = changing(recording.start, traced_calls(program, path, ["run"], recording.lines, sync))
+    before = moments(recording.start, calls)[-1]
     machine = Machine(QUERIES)
     # The gate stands open in the file, so the line that it belongs to is done, and not answered.
     for line in recording.lines[: answered(recording, before.given) + 1]:

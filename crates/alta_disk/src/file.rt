@@ -1,6 +1,6 @@
 // A disk over a real file, of which only the counts and the limit are told.
-// `fdatasync` is enough for a sync, as it writes the length too. Behind the opening each call is one `statx`, `pread64` or `pwrite64`,
-// and a sync is one `fdatasync` and one `statx`.
+// `fdatasync` is enough for a sync, as it writes the length too. Behind the opening and the first write each call is one `statx`,
+// `pread64` or `pwrite64`, and a sync is one `fdatasync` and one `statx`.
 ghost use Rattle.std.specs.Prelude.{◌≡◌, ◌≤◌, ◌+◌, ◌-◌, ◌^◌, min, length, IfOk, OnOk};
 ghost use Rattle.alta_codec.specs.Faults.{Rose};
 ghost use Rattle.alta_disk.specs.Calls.{Charges};
@@ -8,7 +8,7 @@ ghost use Rattle.alta_disk.specs.Disk.{Same, Passes};
 ghost use Rattle.alta_disk.specs.Untold.{untold, untold_lawful};
 
 use crate::file_calls::{
-    FILE_LIMIT, lock, must_have_name, open_file, plain_length, sync_data, sync_folder,
+    FILE_LIMIT, lock, must_have_name, open_file, plain_length, renew_head, sync_data, sync_folder,
 };
 use crate::file_fault::named;
 use crate::{Disk, Failed, FileFault};
@@ -25,8 +25,9 @@ use std::rt::Files;
 /// made. Of a link it is the folder in which the file stands.
 ///
 /// A sync that fails writes the first [`HEAD_BYTES`](alta_layout::HEAD_BYTES) bytes again, as a read gives them: a later sync would leave them out else, where the
-/// system takes them as written. So a sync that answers `Ok` makes firm what an earlier one did not, save where the process was
-/// killed inside of the one that failed, or where the bytes could not be written again.
+/// system takes them as written. A process that is killed inside of such a sync does not come to that. So the first write of an
+/// opening writes these bytes again too, and syncs them, before anything else. Behind that a sync that answers `Ok` makes firm what an
+/// earlier one did not, of this process or of another.
 ///
 /// A call fails where the file is no plain one, where it can't be opened or locked, as where another holds the lock, where it is
 /// longer than the limit, where a read ends early, where a write takes nothing, at a sync where the file was deleted or another
@@ -45,6 +46,8 @@ struct LazyFile<R: Files<File = File> + AllocGlobal + Drop> {
     rt: R,
     path: Option<Text>,
     file: Option<File>,
+    // whether the head was written again and synced
+    is_renewed: bool,
 }
 
 impl<R: Files<File = File> + AllocGlobal + Drop> LazyFile<R> {
@@ -83,6 +86,10 @@ impl<R: Files<File = File> + AllocGlobal + Drop> LazyFile<R> {
     }
 
     fn write(&mut self, at: u64, bytes: &[u8]) -> Result<(), FileFault> {
+        if !self.is_renewed {
+            renew_head(self.opened()?)?;
+            self.is_renewed = true;
+        }
         named("pwrite64", self.opened()?.write_all_at(bytes, at))
     }
 
@@ -108,6 +115,7 @@ impl<R: Files<File = File> + AllocGlobal + Drop> FileDisk<R> {
                 rt,
                 path,
                 file: None,
+                is_renewed: false,
             },
             faults: 0,
             taken: 0,

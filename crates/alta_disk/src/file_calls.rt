@@ -12,7 +12,7 @@ use std::rt::Files;
 
 pub(crate) const FILE_LIMIT: u64 = 1 << 40;
 
-const PAGE_BYTES: u64 = 4_096;
+const CHUNK_BYTES: u64 = 65_536;
 
 // Opens the file, and makes it where it is missing.
 pub(crate) fn open_file<R: Files<File = File>>(rt: &R, path: &Text) -> Result<File, FileFault> {
@@ -97,13 +97,24 @@ pub(crate) fn sync_data(file: &File) -> Result<(), FileFault> {
     named("fdatasync", synced)
 }
 
-// Writes what a read gives of each page of the head to its place, up to the first that can't be read or written.
+// Makes the head firm as a read gives it, where the file has one. A program that was killed inside of a sync that failed could not
+// write it again, and did not tell of it.
+pub(crate) fn renew_head(file: &File) -> Result<(), FileFault> {
+    if plain_length(file)? < HEAD_BYTES {
+        return Ok(());
+    }
+    named("pwrite64 of the head", write_head_again(file))?;
+    sync_data(file)
+}
+
+// Writes what a read gives of the head to its place, up to the first chunk that can't be read or written.
 fn write_head_again(file: &File) -> io::Result<()> {
-    let mut bytes = [0; PAGE_BYTES as usize];
-    for page in 0..HEAD_BYTES / PAGE_BYTES {
-        let at = page * PAGE_BYTES;
-        file.read_exact_at(&mut bytes, at)?;
-        file.write_all_at(&bytes, at)?;
+    let mut bytes = [0; CHUNK_BYTES as usize];
+    for chunk in 0..HEAD_BYTES.div_ceil(CHUNK_BYTES) {
+        let at = chunk * CHUNK_BYTES;
+        let part = &mut bytes[..CHUNK_BYTES.min(HEAD_BYTES - at) as usize];
+        file.read_exact_at(part, at)?;
+        file.write_all_at(part, at)?;
     }
     Ok(())
 }
