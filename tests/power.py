@@ -343,7 +343,7 @@ class Reason(enum.Enum):
     """Why a sync can be left out. What counts is what opening reads: the root in force, all that it names, its half of the journal up to
     the first closed gate, and of the other slot its fields, or its gate where that is closed."""
 
-    IDLE = "nothing was written since the sync before"
+    IDLE = "nothing has changed since the sync before"
     UNNAMED = "up to the next sync nothing is written where something counts"
     SAME = "a new root says what the one before says, and up to the next sync nothing is written where something counts under either"
 

@@ -26,8 +26,8 @@ use std::rt::Files;
 ///
 /// A sync that fails writes the first [`HEAD_BYTES`](alta_layout::HEAD_BYTES) bytes again, as a read gives them: a later sync would leave them out else, where the
 /// system takes them as written. A process that is killed inside of such a sync does not come to that. So the first write of an
-/// opening writes these bytes again too, and syncs them, before anything else. Behind that a sync that answers `Ok` makes firm what an
-/// earlier one did not, of this process or of another.
+/// opening first writes both slots again, and what its half of the journal has in front of it, and syncs. From there on a sync that
+/// answers `Ok` makes firm what an earlier one did not, of this process or of another.
 ///
 /// A call fails where the file is no plain one, where it can't be opened or locked, as where another holds the lock, where it is
 /// longer than the limit, where a read ends early, where a write takes nothing, at a sync where the file was deleted or another
@@ -46,7 +46,7 @@ struct LazyFile<R: Files<File = File> + AllocGlobal + Drop> {
     rt: R,
     path: Option<Text>,
     file: Option<File>,
-    // whether the head was written again and synced
+    // whether what the first write goes by was written again and synced
     is_renewed: bool,
 }
 
@@ -87,7 +87,7 @@ impl<R: Files<File = File> + AllocGlobal + Drop> LazyFile<R> {
 
     fn write(&mut self, at: u64, bytes: &[u8]) -> Result<(), FileFault> {
         if !self.is_renewed {
-            renew_head(self.opened()?)?;
+            renew_head(self.opened()?, at)?;
             self.is_renewed = true;
         }
         named("pwrite64", self.opened()?.write_all_at(bytes, at))

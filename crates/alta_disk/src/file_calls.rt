@@ -1,9 +1,10 @@
 // What is asked of the system about one file: each call with its name, where it fails.
-ghost use Rattle.std.specs.Prelude.{◌≤◌, ◌^◌, IfOk};
+ghost use Rattle.std.specs.Prelude.{◌≤◌, ◌+◌, ◌^◌, IfOk};
+ghost use Rattle.alta_layout.specs.declared.places.TheConstants.{HEAD_BYTES};
 
 use crate::file_fault::{FileFault, named};
 use alta_codec::Text;
-use alta_layout::HEAD_BYTES;
+use alta_layout::{HEAD_BYTES, SLOTS_BYTES, START_A, START_B};
 use std::fs::{self, File, Metadata, OpenOptions, TryLockError};
 use std::io;
 use std::io::ErrorKind;
@@ -92,29 +93,39 @@ pub(crate) fn must_have_name(file: &File) -> Result<(), FileFault> {
 pub(crate) fn sync_data(file: &File) -> Result<(), FileFault> {
     let synced = file.sync_data();
     if synced.is_err() {
-        let _ = write_head_again(file);
+        let _ = write_again(file, 0, HEAD_BYTES);
     }
     named("fdatasync", synced)
 }
 
-// Makes the head firm as a read gives it, where the file has one. A program that was killed inside of a sync that failed could not
-// write it again, and did not tell of it.
-pub(crate) fn renew_head(file: &File) -> Result<(), FileFault> {
+// Makes firm what a write to this place goes by, where the file has a head: both slots, and where the place lies in a half of the
+// journal the records before it. A program that was killed inside of a sync that failed could not write the head again, and the
+// system tells of that sync no more.
+pub(crate) fn renew_head(file: &File, at: u64) -> Result<(), FileFault> {
     if plain_length(file)? < HEAD_BYTES {
         return Ok(());
     }
-    named("pwrite64 of the head", write_head_again(file))?;
+    named("pwrite64", write_again(file, 0, SLOTS_BYTES))?;
+    if at < HEAD_BYTES {
+        let start = if at < START_B { START_A } else { START_B };
+        named(
+            "pwrite64",
+            write_again(file, start, at.saturating_sub(start)),
+        )?;
+    }
     sync_data(file)
 }
 
-// Writes what a read gives of the head to its place, up to the first chunk that can't be read or written.
-fn write_head_again(file: &File) -> io::Result<()> {
+// Writes what a read gives of so many bytes of the head to their place, up to the first chunk that can't be read or written.
+fn write_again(file: &File, start: u64, len: u64) -> io::Result<()>
+    requires { start + len ≤ HEAD_BYTES }
+{
     let mut bytes = [0; CHUNK_BYTES as usize];
-    for chunk in 0..HEAD_BYTES.div_ceil(CHUNK_BYTES) {
-        let at = chunk * CHUNK_BYTES;
-        let part = &mut bytes[..CHUNK_BYTES.min(HEAD_BYTES - at) as usize];
-        file.read_exact_at(part, at)?;
-        file.write_all_at(part, at)?;
+    for chunk in 0..len.div_ceil(CHUNK_BYTES) {
+        let behind = chunk * CHUNK_BYTES;
+        let part = &mut bytes[..CHUNK_BYTES.min(len - behind) as usize];
+        file.read_exact_at(part, start + behind)?;
+        file.write_all_at(part, start + behind)?;
     }
     Ok(())
 }

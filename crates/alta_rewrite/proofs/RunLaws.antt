@@ -163,10 +163,12 @@ module _ (tells : Type 0) (slot : Slot) (root : Root) (pieces : List Piece) (a :
       where
         from_switch : (z : List ℕ) → After b.images (Switching slot root b.content) z → After a.images (Putting slot root pieces) z
         from_switch z (x, now, moved) =
-            let (told, touches) = from_content x now in
-            (a.content, lawful.present told,
-            ⊎_elim (λ keeps. inl (keeps_prepare slot root pieces a.limit a.content (may told) x z touches keeps))
-            (λ (same, switches). inr (b.content, puts told, subst (λ (l : List ℕ). Switches slot root l z) same switches)) moved)
+            let (told, touches) = from_content x now in (
+              a.content,
+              lawful.present told,
+              ⊎_elim (λ keeps. inl (keeps_prepare slot root pieces a.limit a.content (may told) x z touches keeps))
+                  (λ (same, switches). inr (b.content, puts told, subst (λ (l : List ℕ). Switches slot root l z) same switches)) moved,
+            )
 
   module _ (b : DiskState) (run : Passes (Putting slot root pieces) a b) where
     pub leaves_opened : (o coming : Opened) → (tells → IsOpened o a.content) → (tells → Names slot root pieces coming a.content) → LeavesOnly (IsOpenedEither o coming) a b
