@@ -13,7 +13,6 @@ use Rattle.alta_machine.specs.LineFaults.{IsText}
 use Rattle.alta_codec.proofs.NameLaws.{name_is, name_is_not}
 use Rattle.alta_machine.specs.Machine.{adding, put_as, IsRefusal}
 use Rattle.alta_session.proofs.DeletingLaws.{not_numbered, numbered}
-use Rattle.alta_meaning.specs.Standing.{StandsForEither}
 use Rattle.alta_machine.specs.Changes.{has_name, number_of, with_added, with_replaced}
 use Rattle.alta_meaning.specs.Entries.{IsDocument}
 
@@ -55,8 +54,8 @@ pub adding_replaced : (name title body : List ℕ) (s : State) (n : ℕ) → IsN
 adding_replaced name title body s n named is room = adding_puts name title body s (Some n) named is room
 
 -- at no moment was there another image than those of the states before and after
-pub leaves_adding : (d d_now : DiskState) (s t : State) (change : State × List ℕ) (reply : List ℕ) → change ≡ (t, reply) → LeavesOnly (StandsForEither s t) d d_now → LeavesOnly (StandsForEither s change.0) d d_now
-leaves_adding d d_now s t change reply is leaves = subst (λ (u : State). LeavesOnly (StandsForEither s u) d d_now) (sym (ap (λ (p : State × List ℕ). p.0) is)) leaves
+pub leaves_adding : (Either : State → State → List ℕ → Type 0) (d d_now : DiskState) (s t : State) (change : State × List ℕ) (reply : List ℕ) → change ≡ (t, reply) → LeavesOnly (Either s t) d d_now → LeavesOnly (Either s change.0) d d_now
+leaves_adding Either d d_now s t change reply is leaves = subst (λ (u : State). LeavesOnly (Either s u) d d_now) (sym (ap (λ (p : State × List ℕ). p.0) is)) leaves
 
 -- what was added is no refusal
 pub added_is_none : (n : ℕ) → IsRefusal (codes "added " ++ decimal n ++ codes "\n") → ⊥

@@ -9,7 +9,7 @@ use Rattle.alta_search.specs.Open.{AreOpen}
 use Rattle.alta_machine.specs.OpenAnswers.{OpenAnswers}
 use Rattle.alta_search.specs.declared.cursors.OpenCursor.{OpenCursor}
 use Rattle.alta_session.specs.Agreement.{AgreesOn}
-use Rattle.alta_session.specs.Answering.{CanAnswer, AnswersFrom, Answers}
+use Rattle.alta_session.specs.Answering.{CanAnswer, AnswersFrom, Answers, SpeaksFrom}
 use Rattle.alta_replies.specs.Replies.{IsReply}
 use Rattle.alta_machine.specs.Cursors.{Turn}
 use Rattle.alta_replies.specs.Turns.{Turns}
@@ -18,14 +18,14 @@ use Rattle.alta_session.specs.Tasks.{IsBy, IsWorked, worked_where}
 use Rattle.alta_session.specs.declared.session.Session.{Session}
 use Rattle.alta_session.proofs.AgreementLaws.{agrees_changed, knows_state}
 use Rattle.alta_session.proofs.TaskLaws.{worked_none}
-use Rattle.alta_store.specs.Agreement.{Knows}
+use Rattle.alta_store.specs.Agreement.{Knows, MaySpeakOf, MaySpeakOfEither}
 use Rattle.alta_meaning.specs.Holding.{Holding}
 use Rattle.alta_meaning.specs.Standing.{StandsFor, StandsForEither}
 use Rattle.alta_meaning.specs.Work.{Task}
 use Rattle.alta_store.specs.declared.fault.StoreFault.{StoreFault}
 use Rattle.alta_store.specs.declared.fault.StoreFault.TheVariants.{Disk, Memory, Damaged, Full}
 use Rattle.alta_store.specs.declared.store.Store.{Store}
-use Rattle.alta_store.proofs.Agreements.{images_stand}
+use Rattle.alta_store.proofs.Agreements.{images_have, images_stand, knows_spoken}
 
 pub if_so : {T E : Type 0} (r : Result T E) (P : Type 0) → P → OnOk r P
 if_so (Ok x) P here = here
@@ -54,6 +54,13 @@ same_fault r e f is other = cc (sym is ∙ other)
 pub stays : (tells : Type 0) (d : DiskState) (session : Session) (m : Machine) → IsLawful tells d → AgreesOn tells d session m → LeavesOnly (StandsForEither m.state m.state) d d
 stays tells d session m lawful agrees = leaves_start tells d (StandsForEither m.state m.state) lawful (λ c here. inl (images_stand tells d m.state lawful agrees.store.settled agrees.stands c here))
 
+pub stays_speaking : {T : Type 0} (tells : Type 0) (d : DiskState) (session : Session) (result : Result T StoreFault) (s later : State) → IsLawful tells d → CanAnswer tells d session → later ≡ s → MaySpeakOf s d.content → SpeaksFrom d d result s later
+stays_speaking tells d session result s later lawful can same speaks =
+    subst (λ (t : State). SpeaksFrom d d result s t) (sym same) (record {
+      speaks = if_so result (MaySpeakOf s d.content) speaks;
+      images = leaves_start tells d (MaySpeakOfEither s s) lawful (λ c here. inl (images_have tells d (MaySpeakOf s) lawful can.agrees.settled (λ t. speaks) c here));
+    })
+
 -- The machine stays as it is, nothing is asked of the store, and this is the reply.
 pub record Rests (m : Machine) (stepped : Machine × List ℕ) (task : Option Task) (text : List ℕ) : Type 0 where
   pub task_none : task ≡ None
@@ -61,42 +68,39 @@ pub record Rests (m : Machine) (stepped : Machine × List ℕ) (task : Option Ta
   pub cursors : stepped.0.cursors ≡ m.cursors
   pub reply : stepped.1 ≡ text
 
--- A call that only looks, whose reply may depend on the machine.
-pub looked_at : {D : Type 0} (tells : Type 0) (state : D → DiskState) (disk : D) (session : Session) (result : Result (List ℕ) StoreFault) (steps : Machine → Machine × List ℕ) (tasks : Machine → Option Task) (text : Machine → List ℕ) → IsLawful tells (state disk) → CanAnswer tells (state disk) session
-    → IfErr result (λ e. e ≡ Memory)
-    → ((m : Machine) → tells → AgreesOn tells (state disk) session m → Rests m (steps m) (tasks m) (text m) × IfOk result (λ r. r ≡ text m)) → Answers tells state disk disk session session result steps tasks
-looked_at tells state disk session result steps tasks text lawful can memory rests = record {
-  from = λ m tell agrees.
-      let rest : Rests m (steps m) (tasks m) (text m) = (rests m tell agrees).0 in
-      let now : AgreesOn tells (state disk) session (steps m).0 = record {
-        store = agrees.store;
-        stands = λ told. subst (λ (s : State). StandsFor s (state disk).content) (sym rest.state) (agrees.stands told);
-        cursors = subst (λ (l : List OpenAnswers). AreOpen session.cursors l) (sym rest.cursors) agrees.cursors;
-      } in
-      record {
-        reply = IfOk-weaker result (λ r. r ≡ text m) (λ r. r ≡ (steps m).1) (λ r is. is ∙ sym rest.reply) (rests m tell agrees).1;
-        agrees = if_so result (AgreesOn tells (state disk) session (steps m).0) now;
-        images = subst (λ (s : State). LeavesOnly (StandsForEither m.state s) (state disk) (state disk)) (sym rest.state) (stays tells (state disk) session m lawful agrees);
-        refused = λ refusal. (refl, memory);
-        works = λ held here. if_so result _ (worked_none (state disk).limit held (tasks m) (IsBy session (state disk).content) rest.task_none here);
-        full = λ held need gap here is. let wanting : Full need gap ≡ Memory = is_memory result (Full need gap) memory is in absurd cc;
-        undamaged = λ place is. let wanting : Damaged place ≡ Memory = is_memory result (Damaged place) memory is in absurd cc;
-      };
-  can = if_so result (CanAnswer tells (state disk) session) can;
-  unchanged = if_all result _ (λ r refusal. (refl, refl));
-  only = err_weaker result (λ e. e ≡ Memory) _ (λ e is. inl (inl is)) memory;
-  full = λ need gap tell is. let wanting : Full need gap ≡ Memory = is_memory result (Full need gap) memory is in absurd cc;
-  still = λ place tell is. let wanting : Damaged place ≡ Memory = is_memory result (Damaged place) memory is in absurd cc;
-  unwritten = λ need gap tell is. let wanting : Full need gap ≡ Memory = is_memory result (Full need gap) memory is in absurd cc;
-  cause = λ is. let wanting : Disk ≡ Memory = is_memory result Disk memory is in absurd cc;
-  faults = omega arith;
-  same_limit = refl;
-}
-
+-- A call that only looks.
 pub looked : {D : Type 0} (tells : Type 0) (state : D → DiskState) (disk : D) (session : Session) (result : Result (List ℕ) StoreFault) (steps : Machine → Machine × List ℕ) (tasks : Machine → Option Task) (text : List ℕ) → IsLawful tells (state disk) → CanAnswer tells (state disk) session → IsReply text result
-    → ((m : Machine) → tells → AgreesOn tells (state disk) session m → Rests m (steps m) (tasks m) text) → Answers tells state disk disk session session result steps tasks
-looked tells state disk session result steps tasks text lawful can reply rests =
-    looked_at tells state disk session result steps tasks (λ m. text) lawful can reply.memory (λ m tell agrees. (rests m tell agrees, reply.reply))
+    → ((m : Machine) → Knows session.store m.state → Rests m (steps m) (tasks m) text) → Answers tells state disk disk session session result steps tasks
+looked tells state disk session result steps tasks text lawful can replied rests =
+    let memory : IfErr result (λ e. e ≡ Memory) = replied.memory in
+    record {
+      from = λ m tell agrees.
+          let rest : Rests m (steps m) (tasks m) text = rests m (knows_state tells (state disk) session m agrees tell) in
+          let now : AgreesOn tells (state disk) session (steps m).0 = record {
+            store = agrees.store;
+            stands = λ told. subst (λ (s : State). StandsFor s (state disk).content) (sym rest.state) (agrees.stands told);
+            cursors = subst (λ (l : List OpenAnswers). AreOpen session.cursors l) (sym rest.cursors) agrees.cursors;
+          } in
+          record {
+            reply = IfOk-weaker result (λ r. r ≡ text) (λ r. r ≡ (steps m).1) (λ r is. is ∙ sym rest.reply) replied.reply;
+            agrees = if_so result (AgreesOn tells (state disk) session (steps m).0) now;
+            images = subst (λ (s : State). LeavesOnly (StandsForEither m.state s) (state disk) (state disk)) (sym rest.state) (stays tells (state disk) session m lawful agrees);
+            refused = λ refusal. (refl, memory);
+            works = λ held here. if_so result _ (worked_none (state disk).limit held (tasks m) (IsBy session (state disk).content) rest.task_none here);
+            full = λ held need gap here is. let wanting : Full need gap ≡ Memory = is_memory result (Full need gap) memory is in absurd cc;
+            undamaged = λ place is. let wanting : Damaged place ≡ Memory = is_memory result (Damaged place) memory is in absurd cc;
+          };
+      spoken = λ m tell speaks. stays_speaking tells (state disk) session result m.state (steps m).0.state lawful can (rests m (knows_spoken tells (state disk) session.store can.agrees m.state tell speaks)).state speaks;
+      can = if_so result (CanAnswer tells (state disk) session) can;
+      unchanged = if_all result _ (λ r refusal. (refl, refl));
+      only = err_weaker result (λ e. e ≡ Memory) _ (λ e is. inl (inl is)) memory;
+      full = λ need gap tell is. let wanting : Full need gap ≡ Memory = is_memory result (Full need gap) memory is in absurd cc;
+      still = λ place tell is. let wanting : Damaged place ≡ Memory = is_memory result (Damaged place) memory is in absurd cc;
+      unwritten = λ need gap tell is. let wanting : Full need gap ≡ Memory = is_memory result (Full need gap) memory is in absurd cc;
+      cause = λ is. let wanting : Disk ≡ Memory = is_memory result Disk memory is in absurd cc;
+      faults = omega arith;
+      same_limit = refl;
+    }
 
 -- where disk and session came out as they were
 pub same_store : (session : Session) (store : Store) → store ≡ session.store → record { store = store; ends = session.ends; cursors = session.cursors; sound = session.sound } ≡ session
@@ -133,6 +137,7 @@ answers_by tells state disk disk_now session session_now result steps by tasks a
   from = λ m tell agrees.
       subst (λ (t : Option Task). AnswersFrom tells state disk disk_now session session_now result m (by m) t) (are m)
       (subst (λ (p : Machine × List ℕ). AnswersFrom tells state disk disk_now session session_now result m p (tasks m)) (is m) (answers.from m tell agrees));
+  spoken = λ m tell speaks. subst (λ (p : Machine × List ℕ). SpeaksFrom (state disk) (state disk_now) result m.state p.0.state) (is m) (answers.spoken m tell speaks);
   can = answers.can;
   unchanged = answers.unchanged;
   only = answers.only;
@@ -149,6 +154,7 @@ pub answers_failed : {D : Type 0} (tells : Type 0) (state : D → DiskState) (di
 answers_failed tells state disk disk_now session session_now later e steps tasks answers = record {
   from = λ m tell agrees. let one : AnswersFrom tells state disk disk_now session session_now (Err e) m (steps m) (tasks m) = answers.from m tell agrees in
       record { reply = tt; agrees = tt; images = one.images; refused = one.refused; works = λ held here. tt; full = one.full; undamaged = one.undamaged };
+  spoken = λ m tell speaks. record { speaks = tt; images = (answers.spoken m tell speaks).images };
   can = tt;
   unchanged = tt;
   only = answers.only;
@@ -176,8 +182,9 @@ pub record Changes (disk disk_now : DiskState) (session session_now : Session) (
 pub changed : {D : Type 0} (tells : Type 0) (state : D → DiskState) (disk disk_now : D) (session session_now : Session) (result : Result (List ℕ) StoreFault) (change : State → State × List ℕ) (tasks : Machine → Option Task) (text : List ℕ) → IsReply text result → (IsRefusal text → ⊥)
     → session_now.cursors ≡ session.cursors → CanAnswer tells (state disk_now) session_now → (state disk).faults ≤ (state disk_now).faults → (state disk_now).limit ≡ (state disk).limit
     → ((m : Machine) → tells → AgreesOn tells (state disk) session m → Changes (state disk) (state disk_now) session session_now text m (change m.state) (tasks m))
+    → ((s : State) → tells → MaySpeakOf s (state disk).content → SpeaksFrom (state disk) (state disk_now) result s (change s).0)
     → Answers tells state disk disk_now session session_now result (λ m. changed_by m (change m.state)) tasks
-changed tells state disk disk_now session session_now result change tasks text reply no_refusal same_cursors can faults same_limit changes = record {
+changed tells state disk disk_now session session_now result change tasks text reply no_refusal same_cursors can faults same_limit changes spoken = record {
   from = λ m tell agrees.
       let one : Changes (state disk) (state disk_now) session session_now text m (change m.state) (tasks m) = changes m tell agrees in record {
         reply = IfOk-weaker result (λ r. r ≡ text) (λ r. r ≡ (change m.state).1) (λ r is. is ∙ sym one.reply) reply.reply;
@@ -188,6 +195,7 @@ changed tells state disk disk_now session session_now result change tasks text r
         full = λ held need gap here is. let wanting : Full need gap ≡ Memory = is_memory result (Full need gap) reply.memory is in absurd cc;
         undamaged = λ place is. let wanting : Damaged place ≡ Memory = is_memory result (Damaged place) reply.memory is in absurd cc;
       };
+  spoken = λ m tell speaks. spoken m.state tell speaks;
   can = if_so result (CanAnswer tells (state disk_now) session_now) can;
   unchanged = IfOk-weaker result (λ r. r ≡ text) (λ r. IsRefusal r → (disk_now ≡ disk) × (session_now ≡ session)) (λ r is refusal. absurd (no_refusal (subst IsRefusal is refusal))) reply.reply;
   only = err_weaker result (λ e. e ≡ Memory) _ (λ e is. inl (inl is)) reply.memory;
@@ -220,6 +228,7 @@ turned tells state disk session cursors result steps tasks turn lawful can memor
             full = λ held need gap here is. let wanting : Full need gap ≡ Memory = is_memory result (Full need gap) memory is in absurd cc;
             undamaged = λ place is. let wanting : Damaged place ≡ Memory = is_memory result (Damaged place) memory is in absurd cc;
           };
+      spoken = λ m tell speaks. stays_speaking tells (state disk) session result m.state m.state lawful can refl speaks;
       can = if_so result (CanAnswer tells (state disk) (with_cursors session cursors)) (record { sound = can.sound; agrees = can.agrees; mark = can.mark; limit = can.limit });
       unchanged = IfOk-weaker result (λ reply. IsRefusal reply → cursors ≡ session.cursors) _ (λ reply same refusal. (refl, ap (with_cursors session) (same refusal))) refused;
       only = err_weaker result (λ e. e ≡ Memory) _ (λ e is. inl (inl is)) memory;

@@ -1,17 +1,19 @@
 -- Laws of damage that lines find, and of places that they want.
-use Rattle.std.proofs.Common.{◌≡◌, ◌⊎◌, ℕ, inl, inr, List, [], ◌∷◌, ◌++◌, length, map, ap, sym, subst, ◌∙◌, Result, Err}
+use Rattle.std.proofs.Common.{◌≡◌, ◌⊎◌, ℕ, ◌+◌, ◌≤◌, inl, inr, List, [], ◌∷◌, ◌++◌, length, length-append, drop, map, ap, sym, subst, ◌∙◌, arith, Result, Err}
+use Rattle.std.proofs.lemmas.List.{drop-append-le, drop-map}
+use Rattle.std.proofs.Math.Seq.{drop-append-add}
 use Rattle.alta_disk.specs.Disk.{DiskState}
 use Rattle.alta_machine.specs.Command.{Command, adds, deletes, searches, counts, explains, opens, fetches, closes, ranks, flushes, merges, steps, asks_stats, dumps}
 use Rattle.alta_machine.specs.Lines.{Reading, asks, refuses, reading_of}
 use Rattle.alta_session.specs.Answering.{CanAnswer}
-use Rattle.alta_session.specs.Damage.{FindsDamage, SomeFindsDamage, SomeWantsPlace, WantsPlace}
+use Rattle.alta_session.specs.Damage.{FindsDamage, ReadsFirst, WantsPlace}
 use Rattle.alta_session.specs.Joining.{Works}
 use Rattle.alta_session.specs.Keeping.{clip}
 use Rattle.alta_replies.specs.Loading.{Loads}
 use Rattle.alta_session.specs.Spending.{session_loads}
 use Rattle.alta_machine.specs.Machine.{Searches, SearchesIn}
 use Rattle.alta_session.specs.declared.session.Session.{Session}
-use Rattle.alta_session.proofs.MachineLaws.{reading_clip}
+use Rattle.alta_session.proofs.MachineLaws.{first_or, reading_clip}
 use Rattle.alta_store.specs.declared.fault.StoreFault.{StoreFault}
 use Rattle.alta_store.specs.declared.fault.StoreFault.TheVariants.{Damaged, Full}
 
@@ -66,46 +68,28 @@ line_wants tells state disk disk_now session line result need gap can works unwr
       lacks = works.lacks can.agrees.intact.state (can.agrees.content tell).opened need gap can.agrees.intact.knows tell (can.agrees.content tell).is is;
     }))
 
--- ---- among lines
-pub some_first : (image : List ℕ) (xs ys : List (List ℕ)) (place : ℕ) → SomeFindsDamage image xs place → SomeFindsDamage image (xs ++ ys) place
-some_first image [] ys place none = absurd none
-some_first image (x ∷ xs) ys place (inl here) = inl here
-some_first image (x ∷ xs) ys place (inr later) = inr (some_first image xs ys place later)
+-- ---- the first of lines
+pub first_more : (P : Reading → Type 0) (xs ys : List (List ℕ)) → ReadsFirst P xs → ReadsFirst P (xs ++ ys)
+first_more P [] ys none = absurd none
+first_more P (x ∷ xs) ys here = here
 
-pub some_later : (image : List ℕ) (xs ys : List (List ℕ)) (place : ℕ) → SomeFindsDamage image ys place → SomeFindsDamage image (xs ++ ys) place
-some_later image [] ys place here = here
-some_later image (x ∷ xs) ys place here = inr (some_later image xs ys place here)
-
-abbrev first_or : List ℕ → List (List ℕ) → List ℕ
-first_or line [] = line
-first_or line (x ∷ xs) = x
-
-abbrev rest_of : List (List ℕ) → List (List ℕ)
-rest_of [] = []
-rest_of (x ∷ xs) = xs
-
--- lines that are the same up to a clip find the same
-pub some_same : (image : List ℕ) (xs ys : List (List ℕ)) (place : ℕ) → map clip xs ≡ map clip ys → SomeFindsDamage image xs place → SomeFindsDamage image ys place
-some_same image [] ys place same none = absurd none
-some_same image (x ∷ xs) [] place same here = absurd cc
-some_same image (x ∷ xs) (y ∷ ys) place same (inl here) =
+-- lines that are the same up to a clip read the same
+pub first_same : (P : Reading → Type 0) (xs ys : List (List ℕ)) → map clip xs ≡ map clip ys → ReadsFirst P xs → ReadsFirst P ys
+first_same P [] ys same none = absurd none
+first_same P (x ∷ xs) [] same here = absurd cc
+first_same P (x ∷ xs) (y ∷ ys) same here =
     let reads : reading_of x ≡ reading_of y = sym (reading_clip x) ∙ ap (λ (l : List (List ℕ)). reading_of (first_or [] l)) same ∙ reading_clip y in
-    inl (subst (λ (r : Reading). FindsDamage image r place) reads here)
-some_same image (x ∷ xs) (y ∷ ys) place same (inr later) = inr (some_same image xs ys place (ap rest_of same) later)
+    subst P reads here
 
-pub wants_first : (limit : ℕ) (image : List ℕ) (xs ys : List (List ℕ)) (need gap : ℕ) → SomeWantsPlace limit image xs need gap → SomeWantsPlace limit image (xs ++ ys) need gap
-wants_first limit image [] ys need gap none = absurd none
-wants_first limit image (x ∷ xs) ys need gap (inl here) = inl here
-wants_first limit image (x ∷ xs) ys need gap (inr later) = inr (wants_first limit image xs ys need gap later)
+-- those that are left when some of the texts were given, with more lines behind
+pub left_more : (P : Reading → Type 0) (n : ℕ) (xs ys : List (List ℕ)) → n ≤ length xs → ReadsFirst P (drop n xs) → ReadsFirst P (drop n (xs ++ ys))
+left_more P n xs ys within here = subst (ReadsFirst P) (sym (drop-append-le n xs ys within)) (first_more P (drop n xs) ys here)
 
-pub wants_later : (limit : ℕ) (image : List ℕ) (xs ys : List (List ℕ)) (need gap : ℕ) → SomeWantsPlace limit image ys need gap → SomeWantsPlace limit image (xs ++ ys) need gap
-wants_later limit image [] ys need gap here = here
-wants_later limit image (x ∷ xs) ys need gap here = inr (wants_later limit image xs ys need gap here)
+-- and behind lines that were answered
+pub left_on : (P : Reading → Type 0) (texts more xs ys : List (List ℕ)) → length texts ≡ length xs → ReadsFirst P (drop (length more) ys) → ReadsFirst P (drop (length (texts ++ more)) (xs ++ ys))
+left_on P texts more xs ys same here =
+    let long : length (texts ++ more) ≡ length xs + length more = omega (arith, length-append texts more, same) in
+    subst (ReadsFirst P) (sym (ap (λ (n : ℕ). drop n (xs ++ ys)) long ∙ drop-append-add xs ys (length more))) here
 
-pub wants_same : (limit : ℕ) (image : List ℕ) (xs ys : List (List ℕ)) (need gap : ℕ) → map clip xs ≡ map clip ys → SomeWantsPlace limit image xs need gap → SomeWantsPlace limit image ys need gap
-wants_same limit image [] ys need gap same none = absurd none
-wants_same limit image (x ∷ xs) [] need gap same here = absurd cc
-wants_same limit image (x ∷ xs) (y ∷ ys) need gap same (inl here) =
-    let reads : reading_of x ≡ reading_of y = sym (reading_clip x) ∙ ap (λ (l : List (List ℕ)). reading_of (first_or [] l)) same ∙ reading_clip y in
-    inl (subst (λ (r : Reading). WantsPlace limit image r need gap) reads here)
-wants_same limit image (x ∷ xs) (y ∷ ys) need gap same (inr later) = inr (wants_same limit image xs ys need gap (ap rest_of same) later)
+pub left_same : (P : Reading → Type 0) (n : ℕ) (xs ys : List (List ℕ)) → map clip xs ≡ map clip ys → ReadsFirst P (drop n xs) → ReadsFirst P (drop n ys)
+left_same P n xs ys same here = first_same P (drop n xs) (drop n ys) (sym (drop-map clip n xs) ∙ ap (λ (l : List (List ℕ)). drop n l) same ∙ drop-map clip n ys) here

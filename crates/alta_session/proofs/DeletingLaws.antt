@@ -10,7 +10,6 @@ use Rattle.alta_machine.specs.declared.document.Document.{Document}
 use Rattle.alta_machine.specs.declared.document.State.{State}
 use Rattle.alta_codec.proofs.NameLaws.{name_is, name_is_not}
 use Rattle.alta_machine.specs.Machine.{deleted_as, deleting, stats_of, IsRefusal}
-use Rattle.alta_meaning.specs.Standing.{StandsForEither}
 use Rattle.alta_machine.specs.Changes.{has_name, number_of, words_in, with_deleted}
 use Rattle.alta_replies.proofs.SearchLaws.{some_behind}
 
@@ -62,10 +61,10 @@ deleting_deleted name s n named is = deleting_named name s named ∙ ap (λ (o :
 
 -- At no moment was there another image than those of the states before and after, where the disk stays as it is for a name
 -- that no document has.
-pub leaves_deleting : (d d_now : DiskState) (name : List ℕ) (s : State) → IsName name → LeavesOnly (StandsForEither s (with_deleted name s)) d d_now
-    → (has_name name s ≡ false → LeavesOnly (StandsForEither s s) d d_now) → LeavesOnly (StandsForEither s (deleting name s).0) d d_now
-leaves_deleting d d_now name s named leaves same =
-    let P : State → Type 0 = λ t. LeavesOnly (StandsForEither s t) d d_now in
+pub leaves_deleting : (Either : State → State → List ℕ → Type 0) (d d_now : DiskState) (name : List ℕ) (s : State) → IsName name → LeavesOnly (Either s (with_deleted name s)) d d_now
+    → (has_name name s ≡ false → LeavesOnly (Either s s) d d_now) → LeavesOnly (Either s (deleting name s).0) d d_now
+leaves_deleting Either d d_now name s named leaves same =
+    let P : State → Type 0 = λ t. LeavesOnly (Either s t) d d_now in
     let by : (t : State) (reply : List ℕ) → deleting name s ≡ (t, reply) → P t → P (deleting name s).0 = λ t reply is here. subst P (sym (ap (λ (p : State × List ℕ). p.0) is)) here in
     elim (has_name name s) as (λ b. has_name name s ≡ b → P (deleting name s).0) [
       | true ↦ λ some. let n = numbered name s some in by (with_deleted name s) _ (deleting_deleted name s n.0 named n.1) leaves

@@ -77,7 +77,7 @@ full_more limit m held xs ys given status only = λ need gap is.
 -- of lines that are the same up to a clip
 over_clip : (limit : ℕ) (m : Machine) (held : Holding) (xs ys : List (List ℕ)) (k need gap : ℕ) → map clip xs ≡ map clip ys → Overflows limit held m xs k need gap → Overflows limit held m ys k need gap
 over_clip limit m held xs ys k need gap same over = record {
-  within = omega (arith, over.within, length_same m xs ys same);
+  within = omega (arith, over.within, length_same xs ys same);
   now = over.now;
   done = sym (worked_take limit m held k xs ys same) ∙ over.done;
   wanting = sym (worked_take limit m held (k + 1) xs ys same) ∙ over.wanting;

@@ -19,6 +19,7 @@ pub mod ObeyingLaws
 pub mod OpeningLaws
 pub mod ProgressLaws
 pub mod QueryingLaws
+pub mod RepliedLaws
 pub mod RestoringLaws
 pub mod RunLaws
 pub mod ScriptLaws

@@ -1,6 +1,6 @@
 -- Laws of the machine.
 use Rattle.std.proofs.Common.{◌≡◌, ℕ, ◌+◌, ◌<◌, inl, inr, Option, Some, None, List, [], ◌∷◌, ◌++◌, length, take, suc, lit<, refl, ap, sym, ◌∙◌, arith, map, nat_le, codes, decimal, if◌then◌else◌}
-use Rattle.std.proofs.lemmas.List.{length-take, take_all, take-map}
+use Rattle.std.proofs.lemmas.List.{length-map, length-take, take_all, take-map}
 use Rattle.std.proofs.lemmas.Bool.{cases_lt}
 use Rattle.alta_codec.specs.Name.{is_name}
 use Rattle.alta_machine.specs.Changes.{number_of}
@@ -92,6 +92,21 @@ pub step_clip : (m : Machine) (line : List ℕ) → step m (clip line) ≡ step 
 unfolding step
 step_clip m line = ap (λ (r : Reading). answered m r) (reading_clip line)
 
+abbrev pub first_or : List ℕ → List (List ℕ) → List ℕ
+first_or line [] = line
+first_or line (x ∷ xs) = x
+
+abbrev pub rest_of : List (List ℕ) → List (List ℕ)
+rest_of [] = []
+rest_of (x ∷ xs) = xs
+
+-- the first of lines that are the same up to a clip
+pub clip_first : (x y : List ℕ) (xs ys : List (List ℕ)) → map clip (x ∷ xs) ≡ map clip (y ∷ ys) → clip x ≡ clip y
+clip_first x y xs ys same = ap (first_or []) same
+
+pub step_same : (m : Machine) (x y : List ℕ) → clip x ≡ clip y → step m x ≡ step m y
+step_same m x y same = sym (step_clip m x) ∙ ap (λ (l : List ℕ). step m l) same ∙ step_clip m y
+
 pub replies_clip : (m : Machine) (lines : List (List ℕ)) → replies m (map clip lines) ≡ replies m lines
 replies_clip m [] = refl
 replies_clip m (x ∷ xs) =
@@ -113,5 +128,5 @@ pub after_take : (m : Machine) (k : ℕ) (xs ys : List (List ℕ)) → map clip 
 after_take m k xs ys same =
     sym (after_clip m (take k xs)) ∙ ap (λ (l : List (List ℕ)). machine_after m l) (sym (take-map clip k xs) ∙ ap (λ (l : List (List ℕ)). take k l) same ∙ take-map clip k ys) ∙ after_clip m (take k ys)
 
-pub length_same : (m : Machine) (xs ys : List (List ℕ)) → map clip xs ≡ map clip ys → length xs ≡ length ys
-length_same m xs ys same = sym (length_replies m xs) ∙ ap length (sym (replies_clip m xs) ∙ ap (λ (l : List (List ℕ)). replies m l) same ∙ replies_clip m ys) ∙ length_replies m ys
+pub length_same : (xs ys : List (List ℕ)) → map clip xs ≡ map clip ys → length xs ≡ length ys
+length_same xs ys same = sym (length-map xs clip) ∙ ap length same ∙ length-map ys clip

@@ -34,11 +34,11 @@ use Rattle.alta_session.proofs.AnsweringLaws.{answers_by, if_so, ok_weaker, with
 use Rattle.alta_replies.proofs.CursorLaws.{found_other, cursor_other, lines_other, no_refusal, scores_other}
 use Rattle.alta_replies.proofs.LoadingLaws.{agrees_read}
 use Rattle.alta_session.proofs.TaskLaws.{worked_none}
-use Rattle.alta_store.specs.Agreement.{Agrees}
+use Rattle.alta_store.specs.Agreement.{Agrees, MaySpeakOf, MaySpeakOfEither}
 use Rattle.alta_store.specs.Answers.{IsOutside}
 use Rattle.alta_store.specs.declared.fault.StoreFault.{StoreFault}
 use Rattle.alta_store.specs.declared.fault.StoreFault.TheVariants.{Damaged, Full}
-use Rattle.alta_store.proofs.Agreements.{images_stand}
+use Rattle.alta_store.proofs.Agreements.{images_have, images_stand}
 
 ok_both : {T E : Type 0} (r : Result T E) (P Q R : T → Type 0) → ((x : T) → P x → Q x → R x) → IfOk r P → IfOk r Q → IfOk r R
 ok_both (Ok x) P Q R both one two = both x one two
@@ -89,6 +89,12 @@ queried tells state disk disk_now session ends cursors loads idle result steps t
             works = λ held here. if_so result _ (worked_none (state disk).limit held None (IsBy session (state disk_now).content) refl (subst (λ (image : List ℕ). IsBy session image held) (sym (reads.content tell)) here));
             full = λ held need gap here failed. absurd (not_full result need gap queries.loading.loaded.only failed);
             undamaged = λ place failed. not_damaged result place (queries.loading.undamaged m.state tell (agrees.stands tell)) failed;
+          };
+      spoken = λ m tell speaks.
+          let before : (c : List ℕ) → (state disk).images c → MaySpeakOfEither m.state m.state c = λ c here. inl (images_have tells (state disk) (MaySpeakOf m.state) lawful can.agrees.settled (λ t. speaks) c here) in
+          record {
+            speaks = if_so result (MaySpeakOf m.state (state disk_now).content) (subst (MaySpeakOf m.state) (sym (reads.content tell)) speaks);
+            images = leaves_by tells (state disk) (state disk_now) (MaySpeakOfEither m.state m.state) Same lawful reads.images before (λ x z here same. subst (MaySpeakOfEither m.state m.state) (sym same) (before x here));
           };
       can = if_so result (CanAnswer tells (state disk_now) (with_mark session ends cursors)) (record { sound = can.sound; agrees = agrees_now; mark = queries.loading.mark; limit = omega (arith, can.limit, reads.costs.limit) });
       unchanged = ok_both result (λ reply. IsRefusal reply → (disk_now ≡ disk) × (ends ≡ session.ends)) (λ reply. IsRefusal reply → cursors ≡ session.cursors) _

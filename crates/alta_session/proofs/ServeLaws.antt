@@ -1,5 +1,5 @@
 -- Laws of runs that open what is on the disk.
-use Rattle.std.proofs.Common.{◌≡◌, ◌⊎◌, ◌+◌, ◌≤◌, ℕ, inl, inr, ⊎_elim, List, [], Option, None, refl, sym, subst, ◌∙◌, arith}
+use Rattle.std.proofs.Common.{◌≡◌, ◌⊎◌, ◌+◌, ◌≤◌, ℕ, inl, inr, ⊎_elim, List, [], Option, None, length, refl, ap, sym, subst, ◌∙◌, arith}
 use Rattle.std.specs.List.{All}
 use Rattle.alta_layout.specs.declared.slot.Slot.{Slot}
 use Rattle.alta_console.specs.Transcript.{given_in, lines_in}
@@ -7,7 +7,7 @@ use Rattle.alta_console.specs.declared.event.Event.{Event}
 use Rattle.alta_console.proofs.Laws.{grows_none, consumes_none}
 use Rattle.alta_content.specs.declared.content.Content.{Content}
 use Rattle.alta_catalog.specs.Knowing.{newest_of}
-use Rattle.alta_disk.specs.Disk.{DiskState, Same, Only, Passes, LeavesOnly, IsLawful}
+use Rattle.alta_disk.specs.Disk.{DiskState, Each, Same, Only, Passes, Stands, LeavesOnly, IsLawful}
 use Rattle.alta_disk.proofs.Moments.{leaves_then, leaves_by}
 use Rattle.alta_machine.specs.declared.document.State.{State}
 use Rattle.alta_meaning.specs.Broken.{IsBrokenAt}
@@ -16,9 +16,10 @@ use Rattle.alta_session.specs.Agreement.{AgreesOn}
 use Rattle.alta_session.specs.Fullness.{IsFullExactly}
 use Rattle.alta_session.specs.Kept.{HoldsAnswered}
 use Rattle.alta_machine.specs.Machine.{Machine, started_at}
-use Rattle.alta_session.specs.Progress.{StandsAfterSome}
+use Rattle.alta_session.specs.Progress.{SpeaksAfter, SpeaksWithin, StandsAfterSome}
 use Rattle.alta_replies.specs.Loading.{newest_in}
-use Rattle.alta_session.specs.Run.{AnswersAll, KeepsAnswered, KeepsSince, Runs, RunsFrom, Serves, KeepsPrefix}
+use Rattle.alta_session.specs.Replied.{GivesReplies}
+use Rattle.alta_session.specs.Run.{AnswersAll, KeepsAnswered, KeepsReplied, KeepsSince, NotOpened, Runs, RunsFrom, Serves, KeepsPrefix}
 use Rattle.alta_session.specs.Spending.{OnlyReads, Spends, lines_bytes, newest_of_opened, opening_bytes}
 use Rattle.alta_session.specs.Tasks.{IsBy, IsFirst, IsOn, IsWorked, worked_lines}
 use Rattle.alta_session.specs.declared.session.Session.{Session}
@@ -26,7 +27,7 @@ use Rattle.alta_session.specs.declared.status.Status.{Status}
 use Rattle.alta_session.specs.declared.status.Status.TheVariants.{Damaged, DiskFault, Done, Full, TooLong}
 use Rattle.alta_session.proofs.FullnessLaws.{full_exactly}
 use Rattle.alta_session.proofs.MachineLaws.{length_replies}
-use Rattle.alta_session.proofs.ProgressLaws.{some_none}
+use Rattle.alta_session.proofs.ProgressLaws.{after_none, some_none}
 use Rattle.alta_meaning.specs.Standing.{StandsFor, view_of}
 use Rattle.alta_meaning.specs.Views.{state_of}
 use Rattle.alta_meaning.specs.Work.{Job}
@@ -35,7 +36,7 @@ use Rattle.alta_meaning.specs.Opened.{Opened, IsOpened}
 use Rattle.alta_memlevel.proofs.One.{one_content}
 use Rattle.alta_root.specs.Slots.{Counts}
 use Rattle.alta_root.specs.declared.root.Root.{Root}
-use Rattle.alta_store.specs.Agreement.{IsJobIn, Keeps}
+use Rattle.alta_store.specs.Agreement.{Agrees, IsJobIn, Keeps, MaySpeakOf}
 use Rattle.alta_table.specs.Tables.{Tables}
 use Rattle.alta_store.proofs.Agreements.{opened_of}
 use Rattle.alta_store.proofs.Holdings.{content_bytes, well_held}
@@ -57,7 +58,7 @@ keeps_none : (limit : ℕ) (s : State) (c : List ℕ) → StandsFor s c → Keep
 keeps_none limit s c stands = record {
   answered = 0;
   is_acked = record { within = omega arith; begins = ([], refl); greatest = λ j h begins. h };
-  stands = record { reached = 0; least = omega arith; most = omega arith; within = omega arith; stands = stands };
+  stands = record { reached = 0; least = omega arith; most = omega arith; within = omega arith; has = stands };
 }
 
 -- It was opened as far as its sync, and then it ended: from then on each image is the content of the start.
@@ -70,9 +71,21 @@ since_sync tells limit d e s lawful lawful_now passes tell same only stands =
       not_after = omega arith;
       still = subst (λ (c : List ℕ). e.since e.clock c) same (lawful_now.counts_now e.clock e.content (omega arith) (lawful_now.present tell));
       now = λ c left. keeps_none limit s c (here c left);
-      since = λ c left. some_none (started_at s) [] c (here c (lawful_now.only_now c left));
+      since = λ c left. some_none StandsFor (started_at s) [] c (here c (lawful_now.only_now c left));
       ever = λ c left. inl (older tells d e c lawful passes left);
     }
+
+-- no line was answered
+abbrev no_replies : (limit : ℕ) → GivesReplies (lines_in limit []) (given_in [])
+no_replies limit = record { texts = []; part = []; within = omega arith; given_is = refl }
+
+-- The same where the content of the start may speak of the state.
+spoken_since : (tells : Type 0) (limit : ℕ) (d e : DiskState) (s : State) → IsLawful tells d → Passes Same d e → e.content ≡ d.content → Only e.content e.images → MaySpeakOf s d.content → KeepsReplied limit (started_at s) [] (no_replies limit) d e
+spoken_since tells limit d e s lawful passes same only speaks = record {
+  replies = refl;
+  now = λ c left. after_none MaySpeakOf (started_at s) [] c (subst (MaySpeakOf s) (sym (only c left ∙ same)) speaks);
+  ever = λ c left. inl (older tells d e c lawful passes left);
+}
 
 -- it was not opened
 pub serves_none : (tells : Type 0) (limit : ℕ) (told : Option (List Event)) (left : Option (List ℕ)) (d e : DiskState) (status : Status) → IsLawful tells d → IsLawful tells e → Passes Same d e → (tells → e.content ≡ d.content) → (status ≡ DiskFault) ⊎ Only e.content e.images
@@ -84,15 +97,18 @@ serves_none tells limit told left d e status lawful lawful_now passes same settl
   read = consumes_none left;
   too_long = (λ long. absurd (not_long long), λ past. absurd (omega arith));
   last = λ past. absurd (omega arith);
+  replied = record { gives = no_replies limit; in_time = λ k t. absurd t; all = λ done. absurd (not_done done) };
   damaged = λ place tell is. inl (broken place tell is);
   wanting = λ need gap tell is. absurd (not_full need gap is);
+  firm = λ tell some all. absurd (some refl);
+  spoken = λ s tell speaks. ⊎_elim (λ failed. inl (record { failed = failed; none = refl; same = passes })) (λ only. inr (spoken_since tells limit d e s lawful passes (same tell) only speaks)) settled;
   replies = λ s tell stands. record { begin = ([], refl); all = λ done. absurd (not_done done); in_time = λ k t. absurd t };
   full = λ s held tell stands here. full_exactly d.limit (started_at s) held [] [] status (λ need gap is. absurd (not_full need gap is)) (inr (held, refl));
   levels = λ s held tell stands here all. record { now = held; is = refl; held = subst (IsHeld held) (sym (same tell)) here.is };
   settled = λ s tell stands all some. absurd (omega (arith, some));
   keeps = λ s tell stands. record {
     now = λ c here. keeps_none limit s c (same_stands (StandsFor s) d e passes stands.images c here);
-    ever = opens_only tells d e (StandsAfterSome (started_at s) []) lawful passes (λ c here. some_none (started_at s) [] c (stands.images c here));
+    ever = opens_only tells d e (StandsAfterSome (started_at s) []) lawful passes (λ c here. some_none StandsFor (started_at s) [] c (stands.images c here));
   };
   reopened = λ s tell stands. ⊎_elim (λ failed. inl (record { failed = failed; none = refl; same = passes })) (λ only. inr (since_sync tells limit d e s lawful lawful_now passes tell (same tell) only stands)) settled;
   reads = λ s tell stands all. omega (arith, read tell stands.opened.slot stands.opened.root stands.counts);
@@ -132,10 +148,22 @@ pub holds_answered : (limit : ℕ) (start : Machine) (run : List Event) (image :
 holds_answered limit start run image keeps = record {
   reached = keeps.stands.reached;
   within = keeps.stands.within;
-  stands = keeps.stands.stands;
+  stands = keeps.stands.has;
   answered = λ n within begins.
       omega (arith, keeps.is_acked.greatest n (omega (arith, within, length_replies start (lines_in limit run))) begins, keeps.stands.least);
 }
+
+-- what an image may speak of then, where the start's images may speak of the state
+pub holds_replied : (tells : Type 0) (limit : ℕ) (told told_now : Option (List Event)) (left left_now : Option (List ℕ)) (d e : DiskState) (status : Status) (s : State) → tells → Stands tells d (MaySpeakOf s) → (serves : Serves tells limit told told_now left left_now d e status)
+    → Each e.images (SpeaksAfter (length serves.replied.gives.texts) (started_at s) (lines_in limit serves.run))
+holds_replied tells limit told told_now left left_now d e status s tell stands serves =
+    ⊎_elim none (λ keeps. keeps.now) (serves.spoken s tell (stands.content tell))
+  where
+    none : NotOpened d e serves.run status → Each e.images (SpeaksAfter (length serves.replied.gives.texts) (started_at s) (lines_in limit serves.run))
+    none closed c here =
+        let lines : lines_in limit serves.run ≡ [] = ap (lines_in limit) closed.none in
+        let count : 0 ≡ length serves.replied.gives.texts = omega (arith, serves.replied.gives.within, ap length lines) in
+        subst (λ (n : ℕ). SpeaksAfter n (started_at s) (lines_in limit serves.run) c) count (after_none MaySpeakOf (started_at s) (lines_in limit serves.run) c (same_stands (MaySpeakOf s) d e closed.same stands.images c here))
 
 -- by the levels and newest documents of what was opened
 spends_opened : (d e : DiskState) (session : Session) (m : Machine) (lines : List (List ℕ)) (o : Opened) → Keeps session.store o → Spends d e session m lines → All OnlyReads lines → e.taken ≤ d.taken + lines_bytes o.levels (newest_of_opened o) m lines
@@ -146,17 +174,26 @@ spends_opened d e session m lines o keeps spends all =
     subst Q newest (subst P keeps.levels (spends all))
 
 -- it was opened, and then it ran
-pub serves_opened : (tells : Type 0) (limit : ℕ) (told told_now : Option (List Event)) (left left_now : Option (List ℕ)) (d m e : DiskState) (session : Session) (status : Status) → IsLawful tells d → IsLawful tells m → session.store.job ≡ None → Passes Same d m → ((s : State) → tells → StandsFor s d.content → AgreesOn tells m session (started_at s)) → (tells → m.content ≡ d.content) → m.limit ≡ d.limit
+pub serves_opened : (tells : Type 0) (limit : ℕ) (told told_now : Option (List Event)) (left left_now : Option (List ℕ)) (d m e : DiskState) (session : Session) (status : Status) → IsLawful tells d → IsLawful tells m → session.store.job ≡ None → Passes Same d m → ((s : State) → tells → StandsFor s d.content → AgreesOn tells m session (started_at s)) → Agrees tells m session.store → (tells → m.content ≡ d.content) → m.limit ≡ d.limit
     → ((o : Opened) → tells → IsOpened o d.content → Keeps session.store o) → (tells → (slot : Slot) → (root : Root) → Counts slot root d.content → m.taken ≤ d.taken + opening_bytes root d.content)
     → Runs tells limit told told_now left left_now m e session status → Serves tells limit told told_now left left_now d e status
-serves_opened tells limit told told_now left left_now d m e session status lawful lawful_now none passes agrees same same_limit keeps read runs = record {
+serves_opened tells limit told told_now left left_now d m e session status lawful lawful_now none passes agrees store same same_limit keeps read runs = record {
   run = runs.run;
   grew = runs.grew;
   read = runs.read;
   too_long = runs.too_long;
   last = runs.last;
+  replied = runs.replied;
   damaged = λ place tell is. inr (runs.damaged place tell is);
   wanting = λ need gap tell is. runs.wanting need gap tell is;
+  firm = λ tell some all. runs.settled all tell store.settled;
+  spoken = λ s tell speaks.
+      let one : SpeaksWithin m e (lines_in limit runs.run) runs.replied.gives.texts runs.replied.gives.part (started_at s) = runs.spoken (started_at s) tell (record { store = store; speaks = λ told. subst (MaySpeakOf s) (sym (same tell)) speaks }) in
+      inr (record {
+        replies = one.replies;
+        now = one.now;
+        ever = λ c here. ⊎_elim (λ old. inl (older tells d m c lawful passes old)) (λ some. inr some) (one.images.between d.clock c passes.later here);
+      });
   replies = λ s tell stands. (runs.each (started_at s) tell (agrees s tell stands)).replies;
   full = λ s held tell stands here. full_before limit d m e session runs.run status (started_at s) held same_limit (runs.each (started_at s) tell (agrees s tell stands)) (opened_by tells d m session held lawful_now tell none (same tell) here);
   levels = λ s held tell stands here all. levels_before limit d m e session runs.run status (started_at s) held same_limit (runs.each (started_at s) tell (agrees s tell stands)) (opened_by tells d m session held lawful_now tell none (same tell) here) all;
@@ -168,7 +205,7 @@ serves_opened tells limit told told_now left left_now d m e session status lawfu
       let lines : List (List ℕ) = lines_in limit runs.run in
       record {
         now = one.now;
-        ever = leaves_then d m e (StandsAfterSome (started_at s) lines) (opens_only tells d m (StandsAfterSome (started_at s) lines) lawful passes (λ c here. some_none (started_at s) lines c (stands.images c here))) one.ever;
+        ever = leaves_then d m e (StandsAfterSome (started_at s) lines) (opens_only tells d m (StandsAfterSome (started_at s) lines) lawful passes (λ c here. some_none StandsFor (started_at s) lines c (stands.images c here))) one.ever;
       };
   reopened = λ s tell stands.
       let one : KeepsPrefix limit (started_at s) runs.run m e = (runs.each (started_at s) tell (agrees s tell stands)).keeps in

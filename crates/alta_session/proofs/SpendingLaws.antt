@@ -3,7 +3,7 @@ use Rattle.std.proofs.Common.{◌≡◌, ◌⊎◌, inl, inr, ℕ, ◌+◌, ◌�
 use Rattle.std.proofs.lemmas.List.Elements.{All-nil, All-cons, All-head, All-tail}
 use Rattle.std.specs.List.{All}
 use Rattle.alta_content.specs.declared.content.Content.{Content}
-use Rattle.alta_disk.specs.Disk.{DiskState}
+use Rattle.alta_disk.specs.Disk.{DiskState, Only}
 use Rattle.alta_loading.specs.Loads.{load_sizes}
 use Rattle.alta_machine.specs.Command.{Command, adds, deletes, searches, counts, explains, opens, fetches, closes, ranks, flushes, merges, steps, asks_stats, dumps}
 use Rattle.alta_machine.specs.Lines.{Reading, asks, refuses, reading_of}
@@ -14,7 +14,7 @@ use Rattle.alta_session.specs.Keeping.{clip}
 use Rattle.alta_replies.specs.Loading.{Loads, line_loads, loads_in, newest_in}
 use Rattle.alta_session.specs.Spending.{session_loads}
 use Rattle.alta_machine.specs.Machine.{Looks, LooksIn, Machine, Searches, SearchesIn, step, machine_after}
-use Rattle.alta_session.specs.Spending.{KeepsStore, OnlyReads, ReadsIn, Spends, line_bytes, lines_bytes}
+use Rattle.alta_session.specs.Spending.{KeepsSettled, KeepsStore, OnlyReads, ReadsIn, Spends, line_bytes, lines_bytes}
 use Rattle.alta_session.specs.declared.session.Session.{Session}
 use Rattle.alta_store.specs.Agreement.{levels_of}
 use Rattle.alta_store.specs.declared.fault.StoreFault.{StoreFault}
@@ -32,11 +32,11 @@ pub all_later : {X : Type 0} (P : X → Type 0) (xs ys : List X) → All P (xs +
 all_later P [] ys all = all
 all_later P (x ∷ xs) ys all = all_later P xs ys (All-tail P x (xs ++ ys) all)
 
-of_clip : (line : List ℕ) → OnlyReads (clip line) → OnlyReads line
+pub of_clip : (line : List ℕ) → OnlyReads (clip line) → OnlyReads line
 unfolding OnlyReads
 of_clip line reads = subst ReadsIn (reading_clip line) reads
 
-clip_reads : (line : List ℕ) → OnlyReads line → OnlyReads (clip line)
+pub clip_reads : (line : List ℕ) → OnlyReads line → OnlyReads (clip line)
 unfolding OnlyReads
 clip_reads line reads = subst ReadsIn (sym (reading_clip line)) reads
 
@@ -93,6 +93,19 @@ keeps_clip s0 s1 xs ys same kept all = kept (all_same xs ys same all)
 pub keeps_on : (s0 s1 s2 : Session) (xs ys : List (List ℕ)) → KeepsStore s0 s1 xs → KeepsStore s1 s2 ys → KeepsStore s0 s2 (xs ++ ys)
 keeps_on s0 s1 s2 xs ys one two all = two (all_later OnlyReads xs ys all) ∙ one (all_first OnlyReads xs ys all)
 
+-- ---- what stays settled
+pub settled_none : (tells : Type 0) (d : DiskState) (lines : List (List ℕ)) → KeepsSettled tells d d lines
+settled_none tells d lines all told only = only
+
+pub settled_clip : (tells : Type 0) (d e : DiskState) (xs ys : List (List ℕ)) → map clip xs ≡ map clip ys → KeepsSettled tells d e xs → KeepsSettled tells d e ys
+settled_clip tells d e xs ys same settled all told only = settled (all_same xs ys same all) told only
+
+pub settled_more : (tells : Type 0) (d e : DiskState) (xs ys : List (List ℕ)) → KeepsSettled tells d e xs → KeepsSettled tells d e (xs ++ ys)
+settled_more tells d e xs ys settled all told only = settled (all_first OnlyReads xs ys all) told only
+
+pub settled_on : (tells : Type 0) (d e f : DiskState) (xs ys : List (List ℕ)) → KeepsSettled tells d e xs → KeepsSettled tells e f ys → KeepsSettled tells d f (xs ++ ys)
+settled_on tells d e f xs ys one two all told only = two (all_later OnlyReads xs ys all) told (one (all_first OnlyReads xs ys all) told only)
+
 -- ---- of one line
 reads_so : (line : List ℕ) → OnlyReads line → Looks line ⊎ Searches line
 unfolding OnlyReads
@@ -134,4 +147,14 @@ spends_line tells state disk disk_now session m line result are looks loads all 
     elim (reads_so line (All-head OnlyReads line [] all)) [
       | inl look ↦ omega (arith, ap (λ d. (state d).taken) (looks look).0)
       | inr search ↦ omega (arith, (loads search).reads.costs.taken, bytes_is session m line (as_many session.cursors m.cursors are))
+    ]
+
+pub settled_line : {D : Type 0} (tells : Type 0) (state : D → DiskState) (disk disk_now : D) (session : Session) (line : List ℕ) (result : Result (List ℕ) StoreFault) → (Looks line → (disk_now ≡ disk) × IfErr result (λ e. e ≡ Memory))
+    → (Searches line → Loads tells (session_loads session line) (state disk) (state disk_now) result) → KeepsSettled tells (state disk) (state disk_now) (line ∷ [])
+settled_line {D} tells state disk disk_now session line result looks loads all told only =
+    elim (reads_so line (All-head OnlyReads line [] all)) [
+      | inl look ↦ subst (λ (d : D). Only (state d).content (state d).images) (sym (looks look).0) only
+      | inr search ↦ λ c here.
+          let from = (loads search).reads.images.now c here in
+          from.2 ∙ only from.0 from.1 ∙ sym ((loads search).reads.content told)
     ]

@@ -6,10 +6,11 @@ use Rattle.alta_disk.specs.Disk.{DiskState, LeavesOnly}
 use Rattle.alta_session.specs.Agreement.{AgreesOn, HasNotFailed}
 use Rattle.alta_session.specs.Fullness.{IsFull}
 use Rattle.alta_replies.specs.Loading.{MarkHolds}
+use Rattle.alta_machine.specs.declared.document.State.{State}
 use Rattle.alta_machine.specs.Machine.{Machine, IsRefusal}
 use Rattle.alta_session.specs.Tasks.{IsBy, IsWorked, worked_where}
 use Rattle.alta_session.specs.declared.session.Session.{Session}
-use Rattle.alta_store.specs.Agreement.{Agrees}
+use Rattle.alta_store.specs.Agreement.{Agrees, MaySpeakOf, MaySpeakOfEither}
 use Rattle.alta_store.specs.Answers.{IsOutside}
 use Rattle.alta_meaning.specs.Holding.{Holding}
 use Rattle.alta_meaning.specs.Standing.{StandsForEither}
@@ -40,9 +41,16 @@ pub record AnswersFrom {D : Type 0} (tells : Type 0) (state : D → DiskState) (
   -- and on a disk that stands for a state no damage is found
   pub undamaged : (place : ℕ) → result ≡ Err (Damaged place) → ⊥
 
+-- A call on a disk that may speak of a state, also where a list is broken and it stands for none: at each moment an image may speak of the
+-- state before or the one after, and once it is done the content may speak of the one after.
+pub record SpeaksFrom {T : Type 0} (disk disk_now : DiskState) (result : Result T StoreFault) (before later : State) : Type 0 where
+  pub speaks : OnOk result (MaySpeakOf later disk_now.content)
+  pub images : LeavesOnly (MaySpeakOfEither before later) disk disk_now
+
 -- A call that answers by this step of the machine, and by this task, on whichever machine session and disk agree.
 pub record Answers {D : Type 0} (tells : Type 0) (state : D → DiskState) (disk disk_now : D) (session session_now : Session) (result : Result (List ℕ) StoreFault) (steps : Machine → Machine × List ℕ) (tasks : Machine → Option Task) : Type 0 where
   pub from : (m : Machine) → tells → AgreesOn tells (state disk) session m → AnswersFrom tells state disk disk_now session session_now result m (steps m) (tasks m)
+  pub spoken : (m : Machine) → tells → MaySpeakOf m.state (state disk).content → SpeaksFrom (state disk) (state disk_now) result m.state (steps m).0.state
   pub can : OnOk result (CanAnswer tells (state disk_now) session_now)
   pub unchanged : IfOk result (λ reply. IsRefusal reply → (disk_now ≡ disk) × (session_now ≡ session))
   -- each error comes from its cause

@@ -22,10 +22,14 @@ pub record FindsDamage (image : List ℕ) (reading : Reading) (place : ℕ) : Ty
   pub found : IsFirstFault image (loads_in (levels_of store) (newest_in store) many reading) place
       ⊎ IsBrokenAmong (joins_where store (task_in (started_at state) reading)) image place
 
--- one of these lines does
-abbrev pub SomeFindsDamage : List ℕ → List (List ℕ) → ℕ → Type 0
-SomeFindsDamage image [] place = ⊥
-SomeFindsDamage image (line ∷ lines) place = FindsDamage image (reading_of line) place ⊎ SomeFindsDamage image lines place
+-- the first of these lines is read as what has P
+abbrev pub ReadsFirst : (Reading → Type 0) → List (List ℕ) → Type 0
+ReadsFirst P [] = ⊥
+ReadsFirst P (line ∷ lines) = P (reading_of line)
+
+-- the first of these lines finds damage at this place
+abbrev pub FirstFindsDamage : List ℕ → List (List ℕ) → ℕ → Type 0
+FirstFindsDamage image lines place = ReadsFirst (λ (reading : Reading). FindsDamage image reading place) lines
 
 -- A line that is read so wants a place, over a store that goes on with what the image is opened as: its task's work on that needs so many
 -- bytes, where the greatest gap has that many.
@@ -36,7 +40,6 @@ pub record WantsPlace (limit : ℕ) (image : List ℕ) (reading : Reading) (need
   pub knows : Knows store state
   pub lacks : FindsNoPlace limit (task_in (started_at state) reading) holds.opened need gap
 
--- one of these lines does
-abbrev pub SomeWantsPlace : ℕ → List ℕ → List (List ℕ) → ℕ → ℕ → Type 0
-SomeWantsPlace limit image [] need gap = ⊥
-SomeWantsPlace limit image (line ∷ lines) need gap = WantsPlace limit image (reading_of line) need gap ⊎ SomeWantsPlace limit image lines need gap
+-- the first of these lines wants one
+abbrev pub FirstWantsPlace : ℕ → List ℕ → List (List ℕ) → ℕ → ℕ → Type 0
+FirstWantsPlace limit image lines need gap = ReadsFirst (λ (reading : Reading). WantsPlace limit image reading need gap) lines

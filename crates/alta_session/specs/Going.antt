@@ -6,12 +6,14 @@ use Rattle.alta_console.specs.Transcript.{given_in, taken_in, has_ended, Grows, 
 use Rattle.alta_console.specs.declared.event.Event.{Event}
 use Rattle.alta_disk.specs.Disk.{DiskState, LeavesOnly}
 use Rattle.alta_meaning.specs.Holding.{Holding}
-use Rattle.alta_session.specs.Agreement.{AgreesOn}
+use Rattle.alta_session.specs.Agreement.{AgreesOn, SpeaksOn}
 use Rattle.alta_session.specs.Keeping.{clip}
 use Rattle.alta_machine.specs.Machine.{Machine, machine_after, replies}
+use Rattle.alta_session.specs.Fed.{SpokenThrough}
 use Rattle.alta_session.specs.Progress.{StandsAfterSome}
+use Rattle.alta_session.specs.Replied.{AreInTime}
 use Rattle.alta_session.specs.Run.{AnswersInTime}
-use Rattle.alta_session.specs.Spending.{KeepsStore, Spends}
+use Rattle.alta_session.specs.Spending.{KeepsSettled, KeepsStore, Spends}
 use Rattle.alta_session.specs.Tasks.{IsBy, IsWorked, worked_lines}
 use Rattle.alta_session.specs.declared.session.Session.{Session}
 
@@ -33,6 +35,12 @@ pub record Goes (tells : Type 0) (limit : ℕ) (told told_now : Option (List Eve
   pub within : length (taken_in run) ≤ limit
   pub kept_is : clip kept ≡ clip (begun (taken_in run))
   pub not_ended : has_ended run ≡ false
+  pub texts : List (List ℕ)
+  pub each_one : length texts ≡ length (whole (taken_in run))
+  pub texts_are : given_in run ≡ concat texts
+  pub in_time : AreInTime texts run
   pub same_limit : disk_now.limit ≡ disk.limit
   pub keeps : KeepsStore session session_now (whole (taken_in run))
+  pub settled : KeepsSettled tells disk disk_now (whole (taken_in run))
   pub each : (m : Machine) → tells → AgreesOn tells disk session m → GoingFrom tells disk disk_now session session_now run m
+  pub spoken : (m : Machine) → tells → SpeaksOn tells disk session m → SpokenThrough tells disk disk_now session_now (whole (taken_in run)) texts m

@@ -13,6 +13,7 @@ pub mod Keeping
 pub mod Kept
 pub mod Outcomes
 pub mod Progress
+pub mod Replied
 pub mod Restoring
 pub mod Run
 pub mod Spending

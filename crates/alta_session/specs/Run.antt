@@ -1,5 +1,5 @@
 -- A whole run of a console and a disk.
-use Rattle.std.specs.Prelude.{◌≡◌, ◌<◌, ◌≤◌, ◌↔◌, ◌⊎◌, ℕ, ◌+◌, true, List, [], ◌∷◌, ◌++◌, Option, length, take, All}
+use Rattle.std.specs.Prelude.{◌≡◌, ◌≢◌, ◌<◌, ◌≤◌, ◌↔◌, ◌⊎◌, ℕ, ◌+◌, true, List, [], ◌∷◌, ◌++◌, Option, length, take, drop, All}
 use Rattle.alta_console.specs.Lines.{whole}
 use Rattle.std.specs.List.{concat}
 use Rattle.alta_console.specs.Replies.{IsPrefix, IsAcked}
@@ -8,12 +8,13 @@ use Rattle.alta_console.specs.declared.event.Event.{Event}
 use Rattle.alta_console.specs.declared.event.Event.TheVariants.{Taken}
 use Rattle.alta_disk.specs.Disk.{DiskState, Each, Only, Same, Stands, Passes, LeavesOnly}
 use Rattle.alta_machine.specs.declared.document.State.{State}
-use Rattle.alta_session.specs.Agreement.{AgreesOn}
-use Rattle.alta_session.specs.Damage.{SomeFindsDamage, SomeWantsPlace}
+use Rattle.alta_session.specs.Agreement.{AgreesOn, SpeaksOn}
+use Rattle.alta_session.specs.Damage.{FirstFindsDamage, FirstWantsPlace}
 use Rattle.alta_session.specs.Fullness.{IsFullExactly}
 use Rattle.alta_machine.specs.Machine.{Machine, started_at, replies}
-use Rattle.alta_session.specs.Progress.{StandsAfterSome, StandsAfter}
-use Rattle.alta_session.specs.Spending.{OnlyReads, Spends, lines_bytes, newest_of_opened, opening_bytes}
+use Rattle.alta_session.specs.Progress.{SpeaksAfter, SpeaksAfterSome, SpeaksWithin, StandsAfterSome, StandsAfter}
+use Rattle.alta_session.specs.Replied.{AreInTime, AreRepliesTo, GivesReplies}
+use Rattle.alta_session.specs.Spending.{KeepsSettled, OnlyReads, Spends, lines_bytes, newest_of_opened, opening_bytes}
 use Rattle.alta_session.specs.Tasks.{IsBy, IsDone, IsFirst, IsOn, IsWorked, worked_lines}
 use Rattle.alta_session.specs.declared.session.Session.{Session}
 use Rattle.alta_session.specs.declared.status.Status.{Status}
@@ -21,6 +22,7 @@ use Rattle.alta_session.specs.declared.status.Status.TheVariants.{Done, TooLong,
 use Rattle.alta_meaning.specs.Broken.{IsBrokenAt}
 use Rattle.alta_meaning.specs.Holding.{Holding}
 use Rattle.alta_meaning.specs.Standing.{StandsFor}
+use Rattle.alta_store.specs.Agreement.{MaySpeakOf}
 
 -- At each take, what was given so far is the replies to the whole lines taken so far.
 abbrev pub AnswersInTime : Machine → List Event → Type 0
@@ -60,6 +62,17 @@ pub record EndsPast (limit : ℕ) (run : List Event) : Type 0 where
   pub run_is : run ≡ before ++ Taken piece ∷ []
   pub within : length (taken_in before) ≤ limit
 
+-- The replies of a run, whatever the disk stands for: at each take each whole line taken so far was answered, and each line was where it is
+-- done.
+pub record Replied (limit : ℕ) (run : List Event) (status : Status) : Type 0 where
+  pub gives : GivesReplies (lines_in limit run) (given_in run)
+  pub in_time : AreInTime gives.texts run
+  pub all : status ≡ Done → (length gives.texts ≡ length (lines_in limit run)) × (gives.part ≡ [])
+
+-- the lines from the first on whose reply was not given whole
+abbrev pub unanswered : (limit : ℕ) (run : List Event) (status : Status) → Replied limit run status → List (List ℕ)
+unanswered limit run status replied = drop (length replied.gives.texts) (lines_in limit run)
+
 -- The run of an open session.
 pub record RunsFrom (limit : ℕ) (disk disk_now : DiskState) (session : Session) (run : List Event) (status : Status) (m : Machine) : Type 0 where
   pub replies : Replies limit m run status
@@ -77,9 +90,12 @@ pub record Runs (tells : Type 0) (limit : ℕ) (told told_now : Option (List Eve
   pub read : Consumes left left_now (taken_in run)
   pub too_long : (status ≡ TooLong) ↔ (limit < length (taken_in run))
   pub last : limit < length (taken_in run) → EndsPast limit run
-  pub damaged : (place : ℕ) → tells → status ≡ Damaged place → SomeFindsDamage disk_now.content (lines_in limit run) place
-  pub wanting : (need gap : ℕ) → tells → status ≡ Full need gap → SomeWantsPlace disk_now.limit disk_now.content (lines_in limit run) need gap
+  pub replied : Replied limit run status
+  pub damaged : (place : ℕ) → tells → status ≡ Damaged place → FirstFindsDamage disk_now.content (unanswered limit run status replied) place
+  pub wanting : (need gap : ℕ) → tells → status ≡ Full need gap → FirstWantsPlace disk_now.limit disk_now.content (unanswered limit run status replied) need gap
+  pub settled : KeepsSettled tells disk disk_now (lines_in limit run)
   pub each : (m : Machine) → tells → AgreesOn tells disk session m → RunsFrom limit disk disk_now session run status m
+  pub spoken : (m : Machine) → tells → SpeaksOn tells disk session m → SpeaksWithin disk disk_now (lines_in limit run) replied.gives.texts replied.gives.part m
 
 -- The disk failed as it was opened: no line was taken, and what the disk may hold now it might have held before.
 pub record NotOpened (disk disk_now : DiskState) (run : List Event) (status : Status) : Type 0 where
@@ -98,6 +114,14 @@ pub record KeepsSince (limit : ℕ) (start : Machine) (run : List Event) (disk d
   pub since : Each (disk_now.since moment) (StandsAfterSome start (lines_in limit run))
   pub ever : (image : List ℕ) → disk_now.since disk.clock image → disk.images image ⊎ StandsAfterSome start (lines_in limit run) image
 
+-- A damaged index goes on being added to, and what was answered is there. Each line that may change the index was answered with the machine's
+-- reply. Each image that a stop may leave now may speak of the documents after each line whose reply was given whole, or after one line more.
+-- At each moment an image was one of the start, or may speak of the documents after some of the lines.
+pub record KeepsReplied (limit : ℕ) (start : Machine) (run : List Event) (gives : GivesReplies (lines_in limit run) (given_in run)) (disk disk_now : DiskState) : Type 0 where
+  pub replies : AreRepliesTo start (lines_in limit run) gives.texts gives.part
+  pub now : Each disk_now.images (SpeaksAfter (length gives.texts) start (lines_in limit run))
+  pub ever : (image : List ℕ) → disk_now.since disk.clock image → disk.images image ⊎ SpeaksAfterSome start (lines_in limit run) image
+
 -- A run that opens what is on the disk.
 pub record Serves (tells : Type 0) (limit : ℕ) (told told_now : Option (List Event)) (left left_now : Option (List ℕ)) (disk disk_now : DiskState) (status : Status) : Type 0 where
   pub run : List Event
@@ -105,10 +129,16 @@ pub record Serves (tells : Type 0) (limit : ℕ) (told told_now : Option (List E
   pub read : Consumes left left_now (taken_in run)
   pub too_long : (status ≡ TooLong) ↔ (limit < length (taken_in run))
   pub last : limit < length (taken_in run) → EndsPast limit run
-  -- damage is found as the index is opened, or by a line
-  pub damaged : (place : ℕ) → tells → status ≡ Damaged place → IsBrokenAt disk.content place ⊎ SomeFindsDamage disk_now.content (lines_in limit run) place
-  -- and a place is wanting where the work of a line finds none
-  pub wanting : (need gap : ℕ) → tells → status ≡ Full need gap → SomeWantsPlace disk_now.limit disk_now.content (lines_in limit run) need gap
+  pub replied : Replied limit run status
+  -- damage is found as the index is opened, or by the first line without a whole reply
+  pub damaged : (place : ℕ) → tells → status ≡ Damaged place → IsBrokenAt disk.content place ⊎ FirstFindsDamage disk_now.content (unanswered limit run status replied) place
+  -- and a place is wanting where the work of that line finds none
+  pub wanting : (need gap : ℕ) → tells → status ≡ Full need gap → FirstWantsPlace disk_now.limit disk_now.content (unanswered limit run status replied) need gap
+  -- Nothing is taken before a sync has made firm what the opening read, whatever was pending: once something was taken, nothing is pending
+  -- at the end of a run whose lines change nothing, also where a call failed.
+  pub firm : tells → run ≢ [] → All OnlyReads (lines_in limit run) → Only disk_now.content disk_now.images
+  -- where the content may speak of a state, also where a list is broken
+  pub spoken : (s : State) → tells → MaySpeakOf s disk.content → NotOpened disk disk_now run status ⊎ KeepsReplied limit (started_at s) run replied.gives disk disk_now
   -- where the content stands for a state
   pub replies : (s : State) → tells → StandsFor s disk.content → Replies limit (started_at s) run status
   -- and has this

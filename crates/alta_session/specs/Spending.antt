@@ -3,7 +3,7 @@ use Rattle.std.specs.Prelude.{ℕ, ◌+◌, ◌≤◌, ◌≡◌, List, [], ◌�
 use Rattle.alta_layout.specs.declared.places.TheConstants.{HALF_BYTES}
 use Rattle.alta_catalog.specs.Knowing.{newest_of}
 use Rattle.alta_content.specs.declared.content.Content.{Content}
-use Rattle.alta_disk.specs.Disk.{DiskState}
+use Rattle.alta_disk.specs.Disk.{DiskState, Only}
 use Rattle.alta_meaning.specs.Opened.{Opened}
 use Rattle.alta_loading.specs.Loads.{Load, load_sizes}
 use Rattle.alta_machine.specs.Command.{Command, adds, deletes, searches, counts, explains, opens, fetches, closes, ranks, flushes, merges, steps, asks_stats, dumps}
@@ -75,3 +75,7 @@ Spends disk disk_now session m lines =
 -- and the store is as it was
 abbrev pub KeepsStore : Session → Session → List (List ℕ) → Type 0
 KeepsStore session session_now lines = All OnlyReads lines → session_now.store ≡ session.store
+
+-- and nothing is pending on the disk then, where nothing was before
+abbrev pub KeepsSettled : Type 0 → DiskState → DiskState → List (List ℕ) → Type 0
+KeepsSettled tells disk disk_now lines = All OnlyReads lines → tells → Only disk.content disk.images → Only disk_now.content disk_now.images

@@ -1,5 +1,5 @@
 // What follows from definitions and contracts alone. Each function is empty but for the laws that it takes: its contract is the law.
-ghost use Rattle.std.specs.Prelude.{◌≡◌, ℕ, List, map, All};
+ghost use Rattle.std.specs.Prelude.{◌≡◌, ℕ, List, length, map, All};
 ghost use Rattle.alta_console.specs.Transcript.{given_in, lines_in};
 ghost use Rattle.alta_disk.specs.Disk.{DiskState, Each, Stands};
 ghost use Rattle.alta_dump.specs.Asked.{AsksForFoldings};
@@ -17,12 +17,13 @@ ghost use Rattle.alta_machine.specs.Shape.{Shape};
 ghost use Rattle.alta_machine.specs.Searching.{told, AnswerRow};
 ghost use Rattle.alta_session.specs.Found.{AreFound};
 ghost use Rattle.alta_session.specs.Kept.{HoldsAnswered};
+ghost use Rattle.alta_session.specs.Progress.{SpeaksAfter};
 ghost use Rattle.alta_session.specs.Run.{Serves};
 ghost use Rattle.alta_session.specs.Tasks.{IsFirst};
 ghost use Rattle.alta_session.specs.declared.status.Status.{Status};
 ghost use Rattle.alta_machine.specs.Machine.{Machine, machine_after, started_at, step};
 ghost use Rattle.alta_session.specs.Restoring.{AreAddLines};
-ghost use Rattle.alta_store.specs.Agreement.{Agrees};
+ghost use Rattle.alta_store.specs.Agreement.{Agrees, MaySpeakOf};
 
 use alta_console::Console;
 use alta_disk::Disk;
@@ -37,6 +38,15 @@ pub fn what_was_answered_is_kept<C: Console, D: Disk>()
     ensures { (console console_now : C) (disk disk_now : D) (limit : ℕ) (status : Status) (s : State) → Stands D.tells (D.state disk) (StandsFor s)
         → (serves : Serves D.tells limit (C.told console) (C.told console_now) (C.left console) (C.left console_now) (D.state disk) (D.state disk_now) status)
         → Each (D.state disk_now).images (HoldsAnswered (started_at s) (lines_in limit serves.run) (given_in serves.run)) }
+{}
+
+/// A damaged archive goes on being added to, and what was answered as stored is there. Where all that a stop may leave on the disk may speak of
+/// one state as a run begins, whatever lists are broken, each image that a stop may leave afterwards may speak of the documents after some of
+/// the lines taken, in order from the first: after each line whose reply was given whole, or after one line more.
+pub fn what_was_answered_is_kept_beside_damage<C: Console, D: Disk>()
+    ensures { (console console_now : C) (disk disk_now : D) (limit : ℕ) (status : Status) (s : State) → Stands D.tells (D.state disk) (MaySpeakOf s)
+        → (serves : Serves D.tells limit (C.told console) (C.told console_now) (C.left console) (C.left console_now) (D.state disk) (D.state disk_now) status)
+        → Each (D.state disk_now).images (SpeaksAfter (length serves.replied.gives.texts) (started_at s) (lines_in limit serves.run)) }
 {}
 
 /// What an image that stands for a state has, as a run has it that begins there: levels, extents, deleted ends and entries, and no join

@@ -5,9 +5,12 @@ use Rattle.alta_session.specs.Tasks.{task_of}
 use Rattle.alta_session.specs.declared.status.Status.TheVariants.{GiveFault}
 use Rattle.std.proofs.lemmas.List.Elements.{All-head}
 use Rattle.alta_session.specs.Spending.{OnlyReads}
+use Rattle.alta_machine.specs.Lines.{reading_of}
+use Rattle.alta_session.specs.Joining.{Works}
 use Rattle.alta_session.proofs.DamageLaws.{line_finds, line_wants}
+use Rattle.alta_session.proofs.JoiningLaws.{line_says}
 use Rattle.alta_session.proofs.EndingLaws.{counts_disk}
-use Rattle.alta_session.proofs.SpendingLaws.{spends_line}
+use Rattle.alta_session.proofs.SpendingLaws.{settled_line, spends_line}
 use Rattle.alta_session.proofs.FedLaws.{fed_line, stops_line, stops_unanswered}
 use Rattle.alta_session.proofs.StatusLaws.{line_ends, line_ends_run, status_damaged, status_full, status_disk, status_not}
 use Rattle.alta_store.specs.declared.fault.StoreFault.{StoreFault}
@@ -31,7 +34,9 @@ returns-in-Err g c = record {
         (c.in-Err.is ∙ ap Err (status_damaged _ c.in-Err.fault place c.status_of.ensures is)))
         (λ need gap tell is. line_wants g.D.Disk.tells g.D.Disk.state c.args.disk.now c.line.new.disk c.args.session.now c.args.line.now c.line.result need gap c.requires.can c.line.ensures.works c.line.ensures.answers.unwritten c.line.ensures.answers.same_limit tell
         (c.in-Err.is ∙ ap Err (status_full _ c.in-Err.fault need gap c.status_of.ensures is)))
-        (λ m tell agrees. spends_line g.D.Disk.tells g.D.Disk.state c.args.disk.now c.line.new.disk c.args.session.now m c.args.line.now c.line.result agrees.cursors c.line.ensures.no_disk c.line.ensures.loads);
+        (λ m tell agrees. spends_line g.D.Disk.tells g.D.Disk.state c.args.disk.now c.line.new.disk c.args.session.now m c.args.line.now c.line.result agrees.cursors c.line.ensures.no_disk c.line.ensures.loads)
+        (settled_line g.D.Disk.tells g.D.Disk.state c.args.disk.now c.line.new.disk c.args.session.now c.args.line.now c.line.result c.line.ensures.no_disk c.line.ensures.loads)
+        (λ m tell agrees. (c.line.ensures.answers.spoken m tell (agrees.speaks tell)).images);
   };
   can = tt;
   accounts = record {
@@ -56,7 +61,9 @@ returns-in-Ok-give_all g c = record {
         c.in-Ok-give_all.ensures.ok (λ m tell agrees. c.as_bytes.ensures.value ∙ c.as_str.ensures ∙ (answers.from m tell agrees).reply) (λ m tell agrees. (answers.from m tell agrees).agrees) (λ m tell agrees. (answers.from m tell agrees).images)
         (λ m held tell agrees here. (answers.from m tell agrees).works held here) c.line.ensures.answers.same_limit
         (λ all. c.line.ensures.kept (All-head OnlyReads c.args.line.now [] all))
-        (λ m tell agrees. spends_line g.D.Disk.tells g.D.Disk.state c.args.disk.now c.line.new.disk c.args.session.now m c.args.line.now c.line.result agrees.cursors c.line.ensures.no_disk c.line.ensures.loads);
+        (λ m tell agrees. spends_line g.D.Disk.tells g.D.Disk.state c.args.disk.now c.line.new.disk c.args.session.now m c.args.line.now c.line.result agrees.cursors c.line.ensures.no_disk c.line.ensures.loads)
+        (settled_line g.D.Disk.tells g.D.Disk.state c.args.disk.now c.line.new.disk c.args.session.now c.args.line.now c.line.result c.line.ensures.no_disk c.line.ensures.loads)
+        answers.can.agrees (λ m tell agrees changes. c.as_bytes.ensures.value ∙ c.as_str.ensures ∙ line_says g.D.Disk.tells (g.D.Disk.state c.args.disk.now) c.args.session.now m c.args.line.now c.in-Ok.reply c.requires.can agrees (subst (λ (r : Result (List ℕ) StoreFault). Works g.D.Disk.tells g.D.Disk.state c.args.disk.now c.line.new.disk c.args.session.now.store (reading_of c.args.line.now) r) c.in-Ok.is c.line.ensures.works).replies tell changes) (λ m tell agrees. (answers.spoken m tell (agrees.speaks tell)).speaks) (λ m tell agrees. (answers.spoken m tell (agrees.speaks tell)).images);
     err = tt;
   };
   can = (subst (λ (r : Result (List ℕ) StoreFault). Answers g.D.Disk.tells g.D.Disk.state c.args.disk.now c.line.new.disk c.args.session.now c.line.new.self r (λ m. step m c.args.line.now) (λ m. task_of m c.args.line.now)) c.in-Ok.is c.line.ensures.answers).can;
@@ -80,7 +87,9 @@ returns g c = record {
         (g.met.D.Disk.lawful c.line.new.disk) part.4
         (λ m tell agrees. (part.1, sym (c.as_bytes.ensures.value ∙ c.as_str.ensures ∙ (answers.from m tell agrees).reply) ∙ part.2, part.3))
         (λ m tell agrees. (answers.from m tell agrees).images) (λ m held tell agrees here need gap is. absurd cc) (λ m place tell agrees is. absurd cc) (λ place tell is. absurd cc) (λ need gap tell is. absurd cc)
-        (λ m tell agrees. spends_line g.D.Disk.tells g.D.Disk.state c.args.disk.now c.line.new.disk c.args.session.now m c.args.line.now c.line.result agrees.cursors c.line.ensures.no_disk c.line.ensures.loads);
+        (λ m tell agrees. spends_line g.D.Disk.tells g.D.Disk.state c.args.disk.now c.line.new.disk c.args.session.now m c.args.line.now c.line.result agrees.cursors c.line.ensures.no_disk c.line.ensures.loads)
+        (settled_line g.D.Disk.tells g.D.Disk.state c.args.disk.now c.line.new.disk c.args.session.now c.args.line.now c.line.result c.line.ensures.no_disk c.line.ensures.loads)
+        (λ m tell agrees changes. (part.1, sym (c.as_bytes.ensures.value ∙ c.as_str.ensures ∙ line_says g.D.Disk.tells (g.D.Disk.state c.args.disk.now) c.args.session.now m c.args.line.now c.in-Ok.reply c.requires.can agrees (subst (λ (r : Result (List ℕ) StoreFault). Works g.D.Disk.tells g.D.Disk.state c.args.disk.now c.line.new.disk c.args.session.now.store (reading_of c.args.line.now) r) c.in-Ok.is c.line.ensures.works).replies tell changes) ∙ part.2, part.3)) (λ m tell agrees. (answers.spoken m tell (agrees.speaks tell)).images);
   };
   can = tt;
   accounts = record {

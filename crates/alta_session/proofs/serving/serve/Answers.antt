@@ -56,7 +56,7 @@ returns g c =
     let same_limit : (g.D.Disk.state c.answer_lines.new.disk).limit ≡ (g.D.Disk.state c.args.disk.now).limit = c.answer_lines.ensures.accounts.counts.kept.limit ∙ c.start.ensures.opens.same_limit in
     record {
       run = serves_opened g.D.Disk.tells c.args.limit (g.C.Console.told c.args.console.now) (g.C.Console.told c.answer_lines.new.console) (g.C.Console.left c.args.console.now) (g.C.Console.left c.answer_lines.new.console) (g.D.Disk.state c.args.disk.now) (g.D.Disk.state c.start.new.disk)
-          (g.D.Disk.state c.answer_lines.new.disk) c.in-Ok.session c.answer_lines.result (g.met.D.Disk.lawful c.args.disk.now) (g.met.D.Disk.lawful c.start.new.disk) c.in-Ok.ensures.job c.start.ensures.opens.images (λ s tell stands. c.in-Ok.ensures.agrees s (λ t. stands)) c.start.ensures.opens.content c.start.ensures.opens.same_limit c.in-Ok.ensures.keeps c.start.ensures.opens.read c.answer_lines.ensures.run;
+          (g.D.Disk.state c.answer_lines.new.disk) c.in-Ok.session c.answer_lines.result (g.met.D.Disk.lawful c.args.disk.now) (g.met.D.Disk.lawful c.start.new.disk) c.in-Ok.ensures.job c.start.ensures.opens.images (λ s tell stands. c.in-Ok.ensures.agrees s (λ t. stands)) c.in-Ok.ensures.can.agrees c.start.ensures.opens.content c.start.ensures.opens.same_limit c.in-Ok.ensures.keeps c.start.ensures.opens.read c.answer_lines.ensures.run;
       finishes = record {
         read_all = c.answer_lines.ensures.accounts.read_all;
         never = running_never c.answer_lines.result c.answer_lines.ensures.accounts.ends;

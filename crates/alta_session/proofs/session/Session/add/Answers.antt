@@ -7,15 +7,16 @@ use Rattle.alta_journal.specs.declared.entry.Entry.TheVariants.{Add}
 use Rattle.alta_machine.specs.declared.document.State.{State}
 use Rattle.alta_machine.specs.Machine.{adding}
 use Rattle.alta_session.specs.Tasks.{task_of_add}
-use Rattle.alta_store.specs.Agreement.{Has, Knows}
+use Rattle.alta_store.specs.Agreement.{Has, Knows, MaySpeakOf, MaySpeakOfEither}
+use Rattle.alta_store.proofs.Agreements.{knows_spoken}
 use Rattle.alta_store.specs.declared.store.Store.{Store}
 use Rattle.alta_store.specs.declared.fault.StoreFault.TheVariants.{Damaged, Disk, Taken, Numbers, Full}
 use Rattle.alta_machine.specs.Command.{adds}
 use Rattle.alta_machine.specs.Lines.{asks}
-use Rattle.alta_session.proofs.JoiningLaws.{joins_task, lacks_task, works_done, works_failed, works_from, works_still}
+use Rattle.alta_session.proofs.JoiningLaws.{joins_task, lacks_task, reply_by, works_done, works_failed, works_from, works_still}
 use Rattle.alta_session.proofs.AddingLaws.{adding_bad, adding_full, adding_added, added_is_none, leaves_adding, not_refused, room_left}
 use Rattle.alta_session.proofs.AgreementLaws.{knows_state}
-use Rattle.alta_session.proofs.AnsweringLaws.{same_fault, same_store, looked, answers_from, answers_same, can_from, changed, changed_rests}
+use Rattle.alta_session.proofs.AnsweringLaws.{if_so, same_fault, same_store, looked, answers_from, answers_same, can_from, changed, changed_rests}
 use Rattle.alta_session.proofs.ObeyingLaws.{obeyed_works, obeyed_full, narrow_at, add_only}
 use Rattle.alta_session.proofs.TaskLaws.{add_bad, add_full, add_enters}
 use Rattle.alta_session.proofs.session.Session.add.Goals as goal
@@ -26,7 +27,7 @@ add-requires-clause-agrees g c = c.requires.can.agrees
 pub returns-then-not-name_ok-clause-answers : goal.returns-then-not-name_ok-clause-answers
 returns-then-not-name_ok-clause-answers g c =
     looked g.D.Disk.tells g.D.Disk.state c.args.disk.now c.args.self.now c.text.result _ _ _ (g.met.D.Disk.lawful c.args.disk.now) c.requires.can c.text.ensures
-    (λ m tell agrees. changed_rests m _ _ _ (adding_bad c.args.name.now c.args.title.now c.args.body.now m.state (search rules)) (add_bad c.args.name.now c.args.title.now c.args.body.now m.state (search rules)))
+    (λ m knows. changed_rests m _ _ _ (adding_bad c.args.name.now c.args.title.now c.args.body.now m.state (search rules)) (add_bad c.args.name.now c.args.title.now c.args.body.now m.state (search rules)))
 
 pub returns-in-Ok-clause-answers : goal.returns-in-Ok-clause-answers
 returns-in-Ok-clause-answers g c =
@@ -48,6 +49,13 @@ returns-in-Ok-clause-answers g c =
       works = λ held here.
           obeyed_works (g.D.Disk.state c.args.disk.now).limit held (enters (Add c.args.name.now c.args.title.now c.args.body.now)) _ (λ now. Has c.add.new.self now (g.D.Disk.state c.add.new.disk).content)
           (add_enters c.args.name.now c.args.title.now c.args.body.now m.state (search rules) number.1 number.2) (c.in-Ok.ensures.obeys.works held tell here);
+    })
+    (λ s tell speaks.
+    let number = c.in-Ok.ensures.number s (knows_spoken g.D.Disk.tells (g.D.Disk.state c.args.disk.now) c.args.self.now.store c.requires.can.agrees s tell speaks) in
+    let to : with_added c.args.name.now c.args.title.now c.args.body.now s ≡ (adding c.args.name.now c.args.title.now c.args.body.now s).0 = sym (ap (λ (p : State × List ℕ). p.0) (adding_added c.args.name.now c.args.title.now c.args.body.now s (search rules) number.1 number.2)) in
+    record {
+      speaks = if_so c.added.result _ (subst (λ (t : State). MaySpeakOf t (g.D.Disk.state c.add.new.disk).content) to (c.in-Ok.ensures.obeys.speaks s tell speaks));
+      images = subst (λ (t : State). LeavesOnly (MaySpeakOfEither s t) (g.D.Disk.state c.args.disk.now) (g.D.Disk.state c.add.new.disk)) to (c.in-Ok.ensures.obeys.between s (λ told. speaks));
     })
 
 -- a live document has the name
@@ -74,8 +82,8 @@ returns-in-Numbers-clause-answers g c =
     let same = c.add.ensures.refused (inr is) in
     answers_same g.D.Disk.tells g.D.Disk.state c.args.disk.now c.add.new.disk c.args.self.now _ c.text-in-Numbers.result _ _ same.0 (same_store c.args.self.now c.add.new.self same.1)
     (looked g.D.Disk.tells g.D.Disk.state c.args.disk.now c.args.self.now c.text-in-Numbers.result _ _ _ (g.met.D.Disk.lawful c.args.disk.now) c.requires.can c.text-in-Numbers.ensures
-    (λ m tell agrees.
-    let full = (c.add.ensures.numbers m.state (knows_state g.D.Disk.tells (g.D.Disk.state c.args.disk.now) c.args.self.now m agrees tell)).0 is in
+    (λ m knows.
+    let full = (c.add.ensures.numbers m.state knows).0 is in
     changed_rests m _ _ _ (adding_full c.args.name.now c.args.title.now c.args.body.now m.state (search rules) full.1) (add_full c.args.name.now c.args.title.now c.args.body.now m.state full.1)))
 
 -- the addition failed
@@ -90,7 +98,7 @@ returns-in_default-clause-answers g c = record {
       record {
         reply = tt;
         agrees = tt;
-        images = leaves_adding (g.D.Disk.state c.args.disk.now) (g.D.Disk.state c.add.new.disk) m.state _ _ _ is (c.add.ensures.obeys.images m.state agrees.stands);
+        images = leaves_adding StandsForEither (g.D.Disk.state c.args.disk.now) (g.D.Disk.state c.add.new.disk) m.state _ _ _ is (c.add.ensures.obeys.images m.state agrees.stands);
         refused = λ refusal. absurd (not_refused _ _ _ is (added_is_none m.state.next) refusal);
         works = λ held here. tt;
         full = λ held need gap here is.
@@ -99,6 +107,13 @@ returns-in_default-clause-answers g c = record {
             (add_enters c.args.name.now c.args.title.now c.args.body.now m.state (search rules) left.0 left.1) (c.add.ensures.obeys.full held need gap tell here (c.in-Err.is ∙ ap Err same));
         undamaged = λ place is. let same : c.in-Err.fault ≡ Damaged place = cc in c.add.ensures.obeys.undamaged m.state tell (agrees.stands tell) place (c.in-Err.is ∙ ap Err same);
       };
+  spoken = λ m tell speaks.
+      let knows = knows_spoken g.D.Disk.tells (g.D.Disk.state c.args.disk.now) c.args.self.now.store c.requires.can.agrees m.state tell speaks in
+      let not_taken : has_name c.args.name.now m.state ≡ true → ⊥ = λ taken. c.in_default.not-Taken (same_fault _ _ _ c.in-Err.is ((c.add.ensures.taken m.state knows).1 taken)) in
+      let not_full : (has_name c.args.name.now m.state ≡ false) × (4294967296 ≤ m.state.next) → ⊥ = λ full. c.in_default.not-Numbers (same_fault _ _ _ c.in-Err.is ((c.add.ensures.numbers m.state knows).1 full)) in
+      let left = room_left c.args.name.now m.state not_taken not_full in
+      let is = adding_added c.args.name.now c.args.title.now c.args.body.now m.state (search rules) left.0 left.1 in
+      record { speaks = tt; images = leaves_adding MaySpeakOfEither (g.D.Disk.state c.args.disk.now) (g.D.Disk.state c.add.new.disk) m.state _ _ _ is (c.add.ensures.obeys.between m.state (λ told. speaks)) };
   can = tt;
   unchanged = tt;
   only = add_only c.in-Err.fault c.in-Err.ensures.obeys.only c.in_default.not-Taken c.in_default.not-Numbers;
@@ -114,9 +129,13 @@ returns-in_default-clause-answers g c = record {
 
 pub returns-then-not-name_ok-clause-works : goal.returns-then-not-name_ok-clause-works
 returns-then-not-name_ok-clause-works g c = works_still g.D.Disk.tells g.D.Disk.state c.args.disk.now c.args.self.now.store (asks (adds c.args.name.now c.args.title.now c.args.body.now)) c.text.result c.text.ensures.memory
+    (reply_by c.args.self.now.store (asks (adds c.args.name.now c.args.title.now c.args.body.now)) _ _ c.text.ensures (λ m knows. ap (λ (p : State × List ℕ). p.1) (adding_bad c.args.name.now c.args.title.now c.args.body.now m.state (search rules))))
 
 pub returns-in-Ok-clause-works : goal.returns-in-Ok-clause-works
 returns-in-Ok-clause-works g c = works_done g.D.Disk.tells g.D.Disk.state c.args.disk.now c.add.new.disk c.args.self.now.store (asks (adds c.args.name.now c.args.title.now c.args.body.now)) c.added.result c.added.ensures.memory (λ none. absurd none)
+    (reply_by c.args.self.now.store (asks (adds c.args.name.now c.args.title.now c.args.body.now)) _ _ c.added.ensures (λ m knows.
+    let number = c.in-Ok.ensures.number m.state knows in
+    ap (λ (p : State × List ℕ). p.1) (adding_added c.args.name.now c.args.title.now c.args.body.now m.state (search rules) number.1 number.2) ∙ ap (λ (n : ℕ). codes "added " ++ decimal n ++ codes "\n") (sym number.0)))
 
 pub returns-in-Taken-clause-works : goal.returns-in-Taken-clause-works
 returns-in-Taken-clause-works g c =
@@ -126,6 +145,9 @@ returns-in-Taken-clause-works g c =
 
 pub returns-in-Numbers-clause-works : goal.returns-in-Numbers-clause-works
 returns-in-Numbers-clause-works g c = works_done g.D.Disk.tells g.D.Disk.state c.args.disk.now c.add.new.disk c.args.self.now.store (asks (adds c.args.name.now c.args.title.now c.args.body.now)) c.text-in-Numbers.result c.text-in-Numbers.ensures.memory (λ none. absurd none)
+    (reply_by c.args.self.now.store (asks (adds c.args.name.now c.args.title.now c.args.body.now)) _ _ c.text-in-Numbers.ensures (λ m knows.
+    let full = (c.add.ensures.numbers m.state knows).0 (c.in-Err.is ∙ ap Err c.in-Numbers.is) in
+    ap (λ (p : State × List ℕ). p.1) (adding_full c.args.name.now c.args.title.now c.args.body.now m.state (search rules) full.1)))
 
 pub returns-in_default-clause-works : goal.returns-in_default-clause-works
 returns-in_default-clause-works g c =

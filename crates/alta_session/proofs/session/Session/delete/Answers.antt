@@ -8,13 +8,14 @@ use Rattle.alta_journal.specs.declared.entry.Entry.TheVariants.{Delete}
 use Rattle.alta_machine.specs.declared.document.State.{State}
 use Rattle.alta_machine.specs.Machine.{deleting}
 use Rattle.alta_session.specs.Tasks.{task_of_delete}
-use Rattle.alta_store.specs.Agreement.{Has}
+use Rattle.alta_store.specs.Agreement.{Has, MaySpeakOf, MaySpeakOfEither}
+use Rattle.alta_store.proofs.Agreements.{knows_spoken}
 use Rattle.alta_store.specs.declared.fault.StoreFault.TheVariants.{Damaged, Disk, Missing, Full}
 use Rattle.alta_machine.specs.Command.{deletes}
 use Rattle.alta_machine.specs.Lines.{asks}
-use Rattle.alta_session.proofs.JoiningLaws.{joins_task, lacks_task, works_done, works_failed, works_still}
+use Rattle.alta_session.proofs.JoiningLaws.{joins_task, lacks_task, reply_by, works_done, works_failed, works_still}
 use Rattle.alta_session.proofs.AgreementLaws.{knows_state}
-use Rattle.alta_session.proofs.AnsweringLaws.{same_fault, same_store, looked, answers_same, changed, changed_rests}
+use Rattle.alta_session.proofs.AnsweringLaws.{if_so, same_fault, same_store, looked, answers_same, changed, changed_rests}
 use Rattle.alta_session.proofs.DeletingLaws.{deleting_bad, deleting_missing, deleting_deleted, leaves_deleting, missing_for, deleted_where, deleted_is_none}
 use Rattle.alta_session.proofs.ObeyingLaws.{obeyed_works, obeyed_full, narrow_at, some_only}
 use Rattle.alta_session.proofs.TaskLaws.{delete_bad, delete_missing, delete_enters}
@@ -26,7 +27,7 @@ delete-requires-clause-agrees g c = c.requires.agrees
 pub returns-then-not-name_ok-clause-answers : goal.returns-then-not-name_ok-clause-answers
 returns-then-not-name_ok-clause-answers g c =
     looked g.D.Disk.tells g.D.Disk.state c.args.disk.now c.args.self.now c.text.result _ _ _ (g.met.D.Disk.lawful c.args.disk.now) c.requires c.text.ensures
-    (λ m tell agrees. changed_rests m _ _ _ (deleting_bad c.args.name.now m.state (search rules)) (delete_bad c.args.name.now m.state (search rules)))
+    (λ m knows. changed_rests m _ _ _ (deleting_bad c.args.name.now m.state (search rules)) (delete_bad c.args.name.now m.state (search rules)))
 
 pub returns-in-Ok-clause-answers : goal.returns-in-Ok-clause-answers
 returns-in-Ok-clause-answers g c =
@@ -51,6 +52,13 @@ returns-in-Ok-clause-answers g c =
           obeyed_works (g.D.Disk.state c.args.disk.now).limit held (enters (Delete c.in-Ok.number)) _ (λ now. Has c.delete.new.self now (g.D.Disk.state c.delete.new.disk).content)
           (delete_enters c.args.name.now m.state c.in-Ok.number (search rules) numbered) (obeys.works held tell here);
     })
+    (λ s tell speaks.
+    let numbered : number_of c.args.name.now s ≡ Some c.in-Ok.number = c.in-Ok.ensures.number s (knows_spoken g.D.Disk.tells (g.D.Disk.state c.args.disk.now) c.args.self.now.store c.requires.agrees s tell speaks) in
+    let to : with_deleted c.args.name.now s ≡ (deleting c.args.name.now s).0 = sym (ap (λ (p : State × List ℕ). p.0) (deleting_deleted c.args.name.now s c.in-Ok.number (search rules) numbered)) in
+    record {
+      speaks = if_so c.deleted.result _ (subst (λ (t : State). MaySpeakOf t (g.D.Disk.state c.delete.new.disk).content) to (obeys.speaks s tell speaks));
+      images = subst (λ (t : State). LeavesOnly (MaySpeakOfEither s t) (g.D.Disk.state c.args.disk.now) (g.D.Disk.state c.delete.new.disk)) to (obeys.between s (λ told. speaks));
+    })
 
 pub returns-in-Missing-clause-answers : goal.returns-in-Missing-clause-answers
 returns-in-Missing-clause-answers g c =
@@ -58,8 +66,8 @@ returns-in-Missing-clause-answers g c =
     let same = c.delete.ensures.refused is in
     answers_same g.D.Disk.tells g.D.Disk.state c.args.disk.now c.delete.new.disk c.args.self.now _ c.text-in-Missing.result _ _ same.0 (same_store c.args.self.now c.delete.new.self same.1)
     (looked g.D.Disk.tells g.D.Disk.state c.args.disk.now c.args.self.now c.text-in-Missing.result _ _ _ (g.met.D.Disk.lawful c.args.disk.now) c.requires c.text-in-Missing.ensures
-    (λ m tell agrees.
-    let none = (c.delete.ensures.missing m.state (knows_state g.D.Disk.tells (g.D.Disk.state c.args.disk.now) c.args.self.now m agrees tell)).0 is in
+    (λ m knows.
+    let none = (c.delete.ensures.missing m.state knows).0 is in
     changed_rests m _ _ _ (deleting_missing c.args.name.now m.state (search rules) none) (delete_missing c.args.name.now m.state (search rules) none)))
 
 -- the deletion failed
@@ -78,7 +86,7 @@ returns-in_default-clause-answers g c =
           record {
             reply = tt;
             agrees = tt;
-            images = leaves_deleting (g.D.Disk.state c.args.disk.now) (g.D.Disk.state c.delete.new.disk) c.args.name.now m.state (search rules) (does.images m.state agrees.stands) (λ none. absurd (some none));
+            images = leaves_deleting StandsForEither (g.D.Disk.state c.args.disk.now) (g.D.Disk.state c.delete.new.disk) c.args.name.now m.state (search rules) (does.images m.state agrees.stands) (λ none. absurd (some none));
             refused = λ refusal. missing_for _ c.args.name.now m.state (search rules) (λ none. absurd (some none)) refusal;
             works = λ held here. tt;
             full = λ held need gap here is.
@@ -86,6 +94,12 @@ returns-in_default-clause-answers g c =
                 obeyed_full (g.D.Disk.state c.args.disk.now).limit held (enters (Delete number.0)) _ need gap (delete_enters c.args.name.now m.state number.0 (search rules) number.1) (does.full held need gap tell here (ap Err same));
             undamaged = λ place is. let same : c.in-Err.fault ≡ Damaged place = cc in does.undamaged m.state tell (agrees.stands tell) place (ap Err same);
           };
+      spoken = λ m tell speaks.
+          let knows = knows_spoken g.D.Disk.tells (g.D.Disk.state c.args.disk.now) c.args.self.now.store c.requires.agrees m.state tell speaks in
+          let some : has_name c.args.name.now m.state ≡ false → ⊥ = λ none. c.in_default.not-Missing (same_fault _ _ _ c.in-Err.is ((c.delete.ensures.missing m.state knows).1 none)) in
+          let number = deleted_where c.args.name.now m.state some in
+          let does = c.in-Err.ensures.obeys m.state number.0 knows number.1 in
+          record { speaks = tt; images = leaves_deleting MaySpeakOfEither (g.D.Disk.state c.args.disk.now) (g.D.Disk.state c.delete.new.disk) c.args.name.now m.state (search rules) (does.between m.state (λ told. speaks)) (λ none. absurd (some none)) };
       can = tt;
       unchanged = tt;
       only = some_only c.in-Err.fault obeys.only;
@@ -99,12 +113,17 @@ returns-in_default-clause-answers g c =
 
 pub returns-then-not-name_ok-clause-works : goal.returns-then-not-name_ok-clause-works
 returns-then-not-name_ok-clause-works g c = works_still g.D.Disk.tells g.D.Disk.state c.args.disk.now c.args.self.now.store (asks (deletes c.args.name.now)) c.text.result c.text.ensures.memory
+    (reply_by c.args.self.now.store (asks (deletes c.args.name.now)) _ _ c.text.ensures (λ m knows. ap (λ (p : State × List ℕ). p.1) (deleting_bad c.args.name.now m.state (search rules))))
 
 pub returns-in-Ok-clause-works : goal.returns-in-Ok-clause-works
 returns-in-Ok-clause-works g c = works_done g.D.Disk.tells g.D.Disk.state c.args.disk.now c.delete.new.disk c.args.self.now.store (asks (deletes c.args.name.now)) c.deleted.result c.deleted.ensures.memory (λ none. absurd none)
+    (reply_by c.args.self.now.store (asks (deletes c.args.name.now)) _ _ c.deleted.ensures (λ m knows. ap (λ (p : State × List ℕ). p.1) (deleting_deleted c.args.name.now m.state c.in-Ok.number (search rules) (c.in-Ok.ensures.number m.state knows))))
 
 pub returns-in-Missing-clause-works : goal.returns-in-Missing-clause-works
 returns-in-Missing-clause-works g c = works_done g.D.Disk.tells g.D.Disk.state c.args.disk.now c.delete.new.disk c.args.self.now.store (asks (deletes c.args.name.now)) c.text-in-Missing.result c.text-in-Missing.ensures.memory (λ none. absurd none)
+    (reply_by c.args.self.now.store (asks (deletes c.args.name.now)) _ _ c.text-in-Missing.ensures (λ m knows.
+    let none = (c.delete.ensures.missing m.state knows).0 (c.in-Err.is ∙ ap Err c.in-Missing.is) in
+    ap (λ (p : State × List ℕ). p.1) (deleting_missing c.args.name.now m.state (search rules) none)))
 
 pub returns-in_default-clause-works : goal.returns-in_default-clause-works
 returns-in_default-clause-works g c =

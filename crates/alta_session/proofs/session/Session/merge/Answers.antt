@@ -7,8 +7,8 @@ use Rattle.alta_store.specs.Agreement.{Has}
 use Rattle.alta_store.specs.declared.fault.StoreFault.TheVariants.{Damaged, Disk, Full}
 use Rattle.alta_machine.specs.Command.{merges as asks_merge}
 use Rattle.alta_machine.specs.Lines.{asks}
-use Rattle.alta_session.proofs.JoiningLaws.{failed_done, works_done, works_failed}
-use Rattle.alta_session.proofs.AnsweringLaws.{changed}
+use Rattle.alta_session.proofs.JoiningLaws.{failed_done, reply_by, works_done, works_failed}
+use Rattle.alta_session.proofs.AnsweringLaws.{changed, if_so}
 use Rattle.alta_session.proofs.ObeyingLaws.{obeyed_works, obeyed_full, narrow_at, some_only}
 use Rattle.alta_session.proofs.session.Session.merge.Goals as goal
 
@@ -34,6 +34,7 @@ returns-in-Ok-clause-answers g c =
       images = obeys.images m.state agrees.stands;
       works = λ held here. obeyed_works (g.D.Disk.state c.args.disk.now).limit held merges (Some merges) (λ now. Has c.merge.new.self now (g.D.Disk.state c.merge.new.disk).content) refl (obeys.works held tell here);
     })
+    (λ s tell speaks. record { speaks = if_so c.text.result _ (obeys.speaks s tell speaks); images = obeys.between s (λ told. speaks) })
 
 -- the merge failed
 pub returns-in-Err-clause-answers : goal.returns-in-Err-clause-answers
@@ -51,6 +52,7 @@ returns-in-Err-clause-answers g c =
             obeyed_full (g.D.Disk.state c.args.disk.now).limit held merges (Some merges) need gap refl (obeys.full held need gap tell here (ap Err same));
         undamaged = λ place is. let same : c.in-Err.fault ≡ Damaged place = cc in obeys.undamaged m.state tell (agrees.stands tell) place (ap Err same);
       };
+      spoken = λ m tell speaks. record { speaks = tt; images = obeys.between m.state (λ told. speaks) };
       can = tt;
       unchanged = tt;
       only = some_only c.in-Err.fault obeys.only;
@@ -64,6 +66,7 @@ returns-in-Err-clause-answers g c =
 
 pub returns-in-Ok-clause-works : goal.returns-in-Ok-clause-works
 returns-in-Ok-clause-works g c = works_done g.D.Disk.tells g.D.Disk.state c.args.disk.now c.merge.new.disk c.args.self.now.store (asks asks_merge) c.text.result c.text.ensures.memory (λ idle. (c.merge.ensures.idle idle).1)
+    (reply_by c.args.self.now.store (asks asks_merge) _ _ c.text.ensures (λ m knows. refl))
 
 pub returns-in-Err-clause-works : goal.returns-in-Err-clause-works
 returns-in-Err-clause-works g c =

@@ -5,7 +5,7 @@ use Rattle.alta_dump.specs.Shown.{dump_tests}
 use Rattle.alta_machine.specs.declared.document.State.{State}
 use Rattle.alta_meaning.specs.Work.{flushes, merges, steps}
 use Rattle.alta_machine.specs.Command.{ReadsLine, adds, deletes, searches, counts as asks_count, explains, opens, fetches, closes, ranks, flushes as asks_flush, merges as asks_merge, steps as asks_step, asks_stats, dumps}
-use Rattle.alta_machine.specs.Lines.{Reading, asks}
+use Rattle.alta_machine.specs.Lines.{Reading, asks, refuses}
 use Rattle.alta_model.specs.Seen.{command_of}
 use Rattle.alta_model.specs.declared.line.Line.{Line}
 use Rattle.alta_model.specs.declared.line.Line.TheVariants.{Add, Delete, Search, Count, Explain, OpenCursor, Fetch, Close, Top, Flush, Merge, Step, Stats, Dump}
@@ -19,8 +19,7 @@ use Rattle.alta_session.specs.Tasks.{task_of, task_of_add, task_of_delete}
 use Rattle.alta_machine.specs.Changes.{words_in}
 use Rattle.alta_session.specs.Spending.{OnlyReads, ReadsIn}
 use Rattle.alta_session.specs.Joining.{Works}
-use Rattle.alta_session.proofs.JoiningLaws.{works_searching, works_still}
-use Rattle.alta_session.proofs.AgreementLaws.{knows_state}
+use Rattle.alta_session.proofs.JoiningLaws.{reply_unsaid, works_searching, works_still}
 use Rattle.alta_session.proofs.AnsweringLaws.{if_so, looked, answers_by, step_rests, turned}
 use Rattle.alta_session.proofs.AddingLaws.{line_is_document}
 use Rattle.alta_session.proofs.AskLaws.{adds_more, deletes_more, reading_is, refused_asked, refused_searched, step_asks, step_refuses}
@@ -186,7 +185,7 @@ returns-in-Close-clause-answers g c =
 pub returns-in-Explain-clause-answers : goal.returns-in-Explain-clause-answers
 returns-in-Explain-clause-answers g c =
     looked g.D.Disk.tells g.D.Disk.state c.args.disk.now c.args.self.now c.explain.result _ _ _ (g.met.D.Disk.lawful c.args.disk.now) c.requires.can c.explain.ensures
-    (λ m tell agrees. step_rests m _ _ _ (step_asks c.args.line.now c.in-Ok.asked (Explain c.in-Explain.text) c.in-Ok.ensures.reading c.in-Explain.is m) (task_reads m c.args.line.now (asks (explains c.in-Explain.text.now)) (reading_is c.args.line.now c.in-Ok.asked (Explain c.in-Explain.text) c.in-Ok.ensures.reading c.in-Explain.is)))
+    (λ m knows. step_rests m _ _ _ (step_asks c.args.line.now c.in-Ok.asked (Explain c.in-Explain.text) c.in-Ok.ensures.reading c.in-Explain.is m) (task_reads m c.args.line.now (asks (explains c.in-Explain.text.now)) (reading_is c.args.line.now c.in-Ok.asked (Explain c.in-Explain.text) c.in-Ok.ensures.reading c.in-Explain.is)))
 
 -- the counts
 stats_is : (s : State) (counts : ℕ × ℕ × ℕ) → counts ≡ (length s.documents, words_in s, s.next)
@@ -198,13 +197,13 @@ stats_is s counts is =
 pub returns-in-Stats-clause-answers : goal.returns-in-Stats-clause-answers
 returns-in-Stats-clause-answers g c =
     looked g.D.Disk.tells g.D.Disk.state c.args.disk.now c.args.self.now c.stats.result _ _ _ (g.met.D.Disk.lawful c.args.disk.now) c.requires.can c.stats.ensures
-    (λ m tell agrees. step_rests m _ _ _ (step_asks c.args.line.now c.in-Ok.asked Stats c.in-Ok.ensures.reading c.in-Stats.is m ∙ ap (λ (t : List ℕ). (m, t)) (sym (stats_is m.state c.counts.result (c.counts.ensures m.state (knows_state g.D.Disk.tells (g.D.Disk.state c.args.disk.now) c.args.self.now m agrees tell))))) (task_reads m c.args.line.now (asks asks_stats) (reading_is c.args.line.now c.in-Ok.asked Stats c.in-Ok.ensures.reading c.in-Stats.is)))
+    (λ m knows. step_rests m _ _ _ (step_asks c.args.line.now c.in-Ok.asked Stats c.in-Ok.ensures.reading c.in-Stats.is m ∙ ap (λ (t : List ℕ). (m, t)) (sym (stats_is m.state c.counts.result (c.counts.ensures m.state knows)))) (task_reads m c.args.line.now (asks asks_stats) (reading_is c.args.line.now c.in-Ok.asked Stats c.in-Ok.ensures.reading c.in-Stats.is)))
 
 -- a line that is refused
 pub returns-in-Err-clause-answers : goal.returns-in-Err-clause-answers
 returns-in-Err-clause-answers g c =
     looked g.D.Disk.tells g.D.Disk.state c.args.disk.now c.args.self.now c.text.result _ _ _ (g.met.D.Disk.lawful c.args.disk.now) c.requires.can c.text.ensures
-    (λ m tell agrees. step_rests m _ _ _ (step_refuses c.args.line.now c.in-Err.fault c.in-Err.fault c.in-Err.ensures.reading refl m ∙ ap (λ (t : List ℕ). (m, t)) (sym c.refusal_of.ensures)) (refused_asked c.args.line.now c.in-Err.fault c.in-Err.ensures.reading m))
+    (λ m knows. step_rests m _ _ _ (step_refuses c.args.line.now c.in-Err.fault c.in-Err.fault c.in-Err.ensures.reading refl m ∙ ap (λ (t : List ℕ). (m, t)) (sym c.refusal_of.ensures)) (refused_asked c.args.line.now c.in-Err.fault c.in-Err.ensures.reading m))
 
 -- the other lines load nothing
 pub returns-in-Add-clause-loads : goal.returns-in-Add-clause-loads
@@ -297,15 +296,20 @@ returns-in-Dump-clause-works g c =
 
 pub returns-in-Explain-clause-works : goal.returns-in-Explain-clause-works
 returns-in-Explain-clause-works g c = works_still g.D.Disk.tells g.D.Disk.state c.args.disk.now c.args.self.now.store _ c.explain.result c.explain.ensures.memory
+    (reply_unsaid c.args.self.now.store c.args.line.now (asks (explains c.in-Explain.text.now)) c.explain.result (reading_is c.args.line.now c.in-Ok.asked (Explain c.in-Explain.text) c.in-Ok.ensures.reading c.in-Explain.is) tt)
 
 pub returns-in-Fetch-clause-works : goal.returns-in-Fetch-clause-works
 returns-in-Fetch-clause-works g c = works_still g.D.Disk.tells g.D.Disk.state c.args.disk.now c.args.self.now.store _ c.fetch.result c.fetch.ensures.memory
+    (reply_unsaid c.args.self.now.store c.args.line.now (asks (fetches c.in-Fetch.cursor c.in-Fetch.count)) c.fetch.result (reading_is c.args.line.now c.in-Ok.asked (Fetch c.in-Fetch.cursor c.in-Fetch.count) c.in-Ok.ensures.reading c.in-Fetch.is) tt)
 
 pub returns-in-Close-clause-works : goal.returns-in-Close-clause-works
 returns-in-Close-clause-works g c = works_still g.D.Disk.tells g.D.Disk.state c.args.disk.now c.args.self.now.store _ c.close.result c.close.ensures.memory
+    (reply_unsaid c.args.self.now.store c.args.line.now (asks (closes c.in-Close.cursor)) c.close.result (reading_is c.args.line.now c.in-Ok.asked (Close c.in-Close.cursor) c.in-Ok.ensures.reading c.in-Close.is) tt)
 
 pub returns-in-Stats-clause-works : goal.returns-in-Stats-clause-works
 returns-in-Stats-clause-works g c = works_still g.D.Disk.tells g.D.Disk.state c.args.disk.now c.args.self.now.store _ c.stats.result c.stats.ensures.memory
+    (reply_unsaid c.args.self.now.store c.args.line.now (asks asks_stats) c.stats.result (reading_is c.args.line.now c.in-Ok.asked Stats c.in-Ok.ensures.reading c.in-Stats.is) tt)
 
 pub returns-in-Err-clause-works : goal.returns-in-Err-clause-works
 returns-in-Err-clause-works g c = works_still g.D.Disk.tells g.D.Disk.state c.args.disk.now c.args.self.now.store _ c.text.result c.text.ensures.memory
+    (reply_unsaid c.args.self.now.store c.args.line.now (refuses c.in-Err.fault) c.text.result (sym c.in-Err.ensures.reading) tt)
