@@ -1,5 +1,5 @@
 use Rattle.alta_docread.specs.DocView.{IsReading}
-use Rattle.check_readers.proofs.trees.walk.Given as goal
+use Rattle.check_readers.proofs.without.walk.Given as goal
 
 abbrev pub invariant-walk : goal.invariant-walk
 invariant-walk g l = IsReading l.reader
