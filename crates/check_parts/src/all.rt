@@ -1,5 +1,5 @@
 // All examples, from one test function: each is proved down to all that stands below it, so one costs far less than many.
-use crate::{consoles, disks, journals, lines, numbers, postings, ranges, roots, runs, summaries};
+use crate::{disks, lines, numbers, postings, ranges, summaries};
 use std::test::Fail;
 
 #[test]
@@ -12,24 +12,12 @@ fn examples_hold(rt: HostRuntime) -> Result<(), Fail> {
     numbers::numbers_are_spelled_in_1_to_10_bytes(&rt, alloc)?;
     numbers::each_fault_of_a_number_names_its_byte(&rt, alloc)?;
     numbers::a_count_has_no_leading_zero(&rt)?;
-    // Disks, journals and consoles.
+    // Disks.
     disks::calls_in_memory(&rt, alloc)?;
     disks::calls_on_a_file(&rt, &rt, alloc)?;
-    journals::a_half_is_read_or_damaged(&rt, alloc)?;
-    journals::records_are_written_and_read_back(&rt, alloc)?;
-    journals::a_half_is_filled_and_stopped(&rt, alloc)?;
-    consoles::takes_give_pieces_of_the_listed_sizes(&rt, alloc)?;
-    consoles::listed_calls_fail_and_change_nothing_else(&rt, alloc)?;
     // Ranges.
     ranges::covers_are_those_worked_out_by_hand(&rt)?;
-    ranges::each_number_shares_one_term_inside_and_none_outside(&rt)?;
     ranges::words_and_terms_are_spelled_as_said(&rt, alloc)?;
-    // Rows.
-    runs::rows_of_several_runs_are_found(&rt, alloc)?;
-    // Roots, and where bytes find a place.
-    roots::a_root_counts_or_is_damaged(&rt, alloc)?;
-    roots::bytes_are_placed_in_the_first_gap(&rt, alloc)?;
-    roots::a_stop_leaves_one_root_or_the_other(&rt, alloc)?;
     // Lists as bytes, and their summaries.
     postings::lists_are_spelled_and_read_back(&rt, alloc)?;
     postings::each_fault_names_the_number_that_shows_it(&rt, alloc)?;

@@ -1,4 +1,4 @@
-// Worked rows, and small numbers against a plain listing.
+// Worked rows.
 use alta_machine::{LEVELS, Range, cover, number, range_term, term};
 use std::alloc::Global;
 use std::process::Abort;
@@ -7,20 +7,6 @@ use std::test::Fail;
 /// A range from its level and prefix.
 fn range(level: u8, prefix: u32) -> Range {
     Range { level, prefix }
-}
-
-/// How many ranges of the cover share one of the number's terms.
-fn shared(a: u32, b: u32, value: u32) -> usize {
-    let mut count: usize = 0;
-    if a > b {
-        return count;
-    }
-    for range in cover(a, b).as_slice() {
-        if range.level <= LEVELS && term(value, range.level) == spelled(*range) {
-            count = count.saturating_add(1);
-        }
-    }
-    count
 }
 
 /// The term of a range, if it is one.
@@ -46,24 +32,6 @@ pub(crate) fn covers_are_those_worked_out_by_hand(rt: &impl Abort) -> Result<(),
     }
     assert_eq!(rt; cover(1, u32::MAX - 1).len(), 62);
     assert_eq!(rt; cover(0, u32::MAX - 1).len(), 32);
-    Ok(())
-}
-
-pub(crate) fn each_number_shares_one_term_inside_and_none_outside(
-    rt: &impl Abort,
-) -> Result<(), Fail> {
-    for a in 0..41 {
-        for b in a..41 {
-            for value in 0..48 {
-                let inside = a <= value && value <= b;
-                assert_eq!(rt; shared(a, b, value), usize::from(inside));
-            }
-        }
-    }
-    assert_eq!(rt; shared(1, u32::MAX - 1, 0), 0);
-    assert_eq!(rt; shared(1, u32::MAX - 1, 1), 1);
-    assert_eq!(rt; shared(1, u32::MAX - 1, u32::MAX - 1), 1);
-    assert_eq!(rt; shared(1, u32::MAX - 1, u32::MAX), 0);
     Ok(())
 }
 

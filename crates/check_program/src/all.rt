@@ -1,21 +1,12 @@
 // Examples, from one test function: each is proved down to all that stands below it, so one costs far less than many.
 // `scripts_are_answered` of scripts and `what_fails_keeps_what_was_answered` of stops stand alone, as a test has a minute.
-use crate::{faults, fill, older, stores};
+use crate::{faults, fill, stores};
 use std::test::Fail;
 
 #[test]
 fn examples_hold(rt: HostRuntime) -> Result<(), Fail> {
     let alloc = rt.alloc();
-    // Stores.
-    stores::a_formatted_disk_has_the_stated_bytes(&rt, alloc)?;
-    stores::a_broken_rule_has_its_place(&rt, alloc)?;
-    stores::the_later_slot_and_its_half_count(&rt, alloc)?;
-    stores::names_and_numbers_are_as_the_state_has_them(&rt, alloc)?;
-    stores::a_stop_at_any_call_keeps_what_was_answered(&rt, alloc)?;
-    stores::a_root_of_version_1_is_raised_before_a_replace(&rt, alloc)?;
-    older::an_earlier_index_is_read_and_added_to(&rt, alloc)?;
-    older::an_earlier_index_is_raised(&rt, alloc)?;
-    // Runs.
+    stores::numbers_are_as_the_state_has_them(&rt, alloc)?;
     faults::a_stop_keeps_what_was_answered(&rt, alloc)?;
     faults::a_stop_behind_a_flush_keeps_it(&rt, alloc)?;
     faults::the_list_of_all_ends_is_read_once(&rt, alloc)?;

@@ -1,6 +1,5 @@
-//! Stores over a disk in memory, and runs by the top call over a disk and a console in memory: opened, damaged and added to, scripts
-//! with what they give, statuses, runs that are stopped or meet a fault at each call, and a journal that is filled. It holds no product,
-//! only tests.
+//! A store over a disk in memory, and runs by the top call over a disk and a console in memory: scripts with what they give,
+//! statuses, runs that are stopped or meet a fault at each call, and a journal that is filled. It holds no product, only tests.
 #![tactic(auto)]
 
 #[cfg(test)]
@@ -15,8 +14,6 @@ mod fill;
 mod levels;
 #[cfg(test)]
 mod lines;
-#[cfg(test)]
-mod older;
 #[cfg(test)]
 mod playing;
 #[cfg(test)]

@@ -1,5 +1,5 @@
-//! Readers of lists, the solver, trees of readers and their leads, searches of snapshots that are made by hand, beside a plain search
-//! or the plain match of a query with a document, and open cursors. It holds no product, only tests.
+//! The worked rows of readers of lists, of the solver and of the ends that a tree does not have, and the most steps of searches and
+//! pages in figures. It holds no product, only tests.
 #![tactic(auto)]
 
 #[cfg(test)]
@@ -7,28 +7,12 @@ mod all;
 #[cfg(test)]
 mod chains;
 #[cfg(test)]
-mod coded;
-#[cfg(test)]
 mod counted;
 #[cfg(test)]
-mod cursors;
-#[cfg(test)]
-mod figures;
-#[cfg(test)]
-mod leads;
+pub mod figures;
 #[cfg(test)]
 mod moves;
 #[cfg(test)]
-mod plain_search;
-#[cfg(test)]
-mod ranks;
-#[cfg(test)]
-mod searches;
-#[cfg(test)]
-mod small_snapshots;
-#[cfg(test)]
 mod solutions;
 #[cfg(test)]
-mod trees;
-#[cfg(test)]
-mod words;
+mod without;

@@ -17,17 +17,3 @@ pub(crate) fn after_seek<R: BackReader, L: Ledger>(
     }
     (reader.loc(), reader.prev())
 }
-
-/// Where a reader stands after one move to the next element, and the element before.
-pub(crate) fn after_next<R: BackReader, L: Ledger>(
-    reader: &mut R,
-    steps: &mut Steps<L>,
-) -> (u64, u64)
-    requires { R.sound reader.old }
-    ensures { R.sound reader.new }
-{
-    if reader.loc() < TOP {
-        reader.next(steps);
-    }
-    (reader.loc(), reader.prev())
-}

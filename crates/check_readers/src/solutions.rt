@@ -1,12 +1,11 @@
-// Worked rows of the union, of ends and of the solver, over plain lists.
+// Worked rows of the union and of the solver, over plain lists.
 ghost use Rattle.std.specs.Prelude.{◌≡◌, ◌<◌, All};
 ghost use Rattle.alta_codec.specs.Rising.{IsRising};
 
 use crate::counted::Counted;
-use crate::moves::{after_next, after_seek};
-use crate::plain_search::least;
-use alta_codec::{Form, Steps, TOP};
-use alta_compound::{AnyReader, EndReader};
+use crate::moves::after_seek;
+use alta_codec::{Form, Steps};
+use alta_compound::AnyReader;
 use alta_reader::{BackReader, Reader};
 use alta_solver::{Bound, Solver, System};
 use alta_words::PlainReader;
@@ -35,32 +34,6 @@ fn union_row<L: Ledger>(
     let start = (any.loc(), any.prev());
     let row = after_seek(&mut any, 4, steps);
     Ok(([start, row], moves.get()))
-}
-
-/// A walk of the union of five lists by `next`, as ends, and the starts of the documents.
-fn end_walk<L: Ledger>(
-    alloc: Global,
-    steps: &mut Steps<L>,
-) -> Result<(Vec<(u64, u64)>, Vec<u64>), AllocError> {
-    let mut readers = Vec::new(alloc);
-    readers.push(PlainReader::new(&[4, 9], steps))?;
-    readers.push(PlainReader::new(&[2, 4], steps))?;
-    readers.push(PlainReader::new(&[], steps))?;
-    readers.push(PlainReader::new(&[5, 100], steps))?;
-    readers.push(PlainReader::new(&[3], steps))?;
-    let mut ends = EndReader::new(AnyReader::new(readers));
-    let mut rows = Vec::new(alloc);
-    let mut starts = Vec::new(alloc);
-    rows.push((ends.loc(), ends.prev()))?;
-    starts.push(ends.start())?;
-    rows.push(after_next(&mut ends, steps))?;
-    starts.push(ends.start())?;
-    rows.push(after_next(&mut ends, steps))?;
-    starts.push(ends.start())?;
-    rows.push(after_next(&mut ends, steps))?;
-    rows.push(after_seek(&mut ends, 10, steps))?;
-    rows.push(after_next(&mut ends, steps))?;
-    Ok((rows, starts))
 }
 
 /// Where two readers stand on the least solution, if there is one.
@@ -155,16 +128,13 @@ fn handed_back<L: Ledger>(
 
 type Union = ([(u64, u64); 2], u64);
 
-type Walk = (Vec<(u64, u64)>, Vec<u64>);
-
-fn reader_rows<L: Ledger>(alloc: Global, blank: Blank) -> Result<(Union, Walk), AllocError>
+fn reader_rows<L: Ledger>(alloc: Global, blank: Blank) -> Result<Union, AllocError>
     requires name { blank.name ≡ L.name }
     requires parts { blank.parts ≡ L.parts }
     requires shared { 0 < L.parts }
 {
     let mut steps = Steps::<L>::new(blank);
-    let row = union_row(alloc, &[2, 7], &[3, 8], &mut steps)?;
-    Ok((row, end_walk(alloc, &mut steps)?))
+    union_row(alloc, &[2, 7], &[3, 8], &mut steps)
 }
 
 fn solver_rows<L: Ledger>(
@@ -193,7 +163,7 @@ fn solver_rows<L: Ledger>(
 }
 
 /// The same, where nobody counts.
-fn uncounted_readers(alloc: Global) -> Result<(Union, Walk), AllocError> {
+fn uncounted_readers(alloc: Global) -> Result<Union, AllocError> {
     reader_rows::<Brand>(alloc, Blank::new(1))
 }
 
@@ -204,13 +174,10 @@ fn uncounted_solver(
     solver_rows::<Brand>(alloc, Blank::new(1))
 }
 
-pub(crate) fn unions_and_ends(rt: &impl Abort, alloc: Global) -> Result<(), Fail> {
-    let ((union, moves), (walk, starts)) = uncounted_readers(alloc)?;
+pub(crate) fn union_of_two(rt: &impl Abort, alloc: Global) -> Result<(), Fail> {
+    let (union, moves) = uncounted_readers(alloc)?;
     assert_eq!(rt; union, [(2, 0), (7, 3)]);
     assert_eq!(rt; moves, 2);
-    let want = [(2, 0), (3, 2), (4, 3), (5, 4), (100, 9), (TOP, 100)];
-    assert_eq!(rt; walk.as_slice(), want.as_slice());
-    assert_eq!(rt; starts.as_slice(), [1, 3, 4].as_slice());
     Ok(())
 }
 
@@ -255,56 +222,4 @@ pub(crate) fn limits_of_a_constant(rt: &impl Abort) {
             (2, 5, 0, 7)
         );
     }
-}
-
-/// The number of systems of two bounds over the lists 2, 5, 6 and 3, 5 at which `settle` and a plain search differ, and
-/// of those that have a solution.
-fn differences<L: Ledger>(alloc: Global, blank: Blank) -> Result<(u64, u64), AllocError>
-    requires name { blank.name ≡ L.name }
-    requires parts { blank.parts ≡ L.parts }
-    requires shared { 0 < L.parts }
-{
-    let mut steps = Steps::<L>::new(blank);
-    let mut different = 0u64;
-    let mut solved = 0u64;
-    for form in [Form::LocLoc, Form::PrevLoc, Form::LocPrev, Form::PrevPrev] {
-        for k in -3..4 {
-            for other in [Form::LocLoc, Form::PrevLoc, Form::LocPrev, Form::PrevPrev] {
-                for m in -3..4 {
-                    for (i, j) in [(0, 1), (1, 0)] {
-                        let row = [(form, i, j, k), (other, 1, 0, m)];
-                        let want = least(&[2, 5, 6], &[3, 5, 1 << 62], &row);
-                        let bounds = bounds_of(alloc, &row)?;
-                        let got = settled(alloc, &[2, 5, 6], &[3, 5], bounds, &mut steps)?;
-                        if got.is_some() {
-                            solved = solved.wrapping_add(1);
-                        }
-                        let same = match (got, want) {
-                            (None, None) => true,
-                            (Some((x, y)), Some((v, w))) => {
-                                i64::try_from(x) == Ok(v) && i64::try_from(y) == Ok(w)
-                            }
-                            _ => false,
-                        };
-                        if !same {
-                            different = different.wrapping_add(1);
-                        }
-                    }
-                }
-            }
-        }
-    }
-    Ok((different, solved))
-}
-
-/// The same, where nobody counts.
-fn uncounted_differences(alloc: Global) -> Result<(u64, u64), AllocError> {
-    differences::<Brand>(alloc, Blank::new(1))
-}
-
-pub(crate) fn against_a_plain_search(rt: &impl Abort, alloc: Global) -> Result<(), Fail> {
-    let (different, solved) = uncounted_differences(alloc)?;
-    assert_eq!(rt; different, 0);
-    assert!(rt; solved > 300);
-    Ok(())
 }
