@@ -24,7 +24,7 @@ TOP = os.path.dirname(os.path.dirname(os.path.abspath(__file__)))
 sys.path.insert(0, os.path.join(TOP, "client"))
 
 from buncocedar import Index  # noqa: E402
-from buncocedar.imports.fields import thread_of, with_names  # noqa: E402
+from buncocedar.imports.fields import thread_word, with_names  # noqa: E402
 from buncocedar.imports.stamps import name_of  # noqa: E402
 
 PEOPLE = [
@@ -188,7 +188,7 @@ def questions(known):
         Question("unread", "tag:unread", "is:unread", lambda letter: letter.is_unread),
         Question("flagged", "tag:flagged", "is:flagged", lambda letter: letter.is_flagged),
         Question("in a folder", "folder:.Lists", "folder:lists", lambda letter: letter.folder == ".Lists"),
-        Question("a thread", f"thread:{{id:{thread}}}", f"thread:{thread_of([], thread.encode())}", lambda letter: letter.thread == thread),
+        Question("a thread", f"thread:{{id:{thread}}}", f"thread:{thread_word(thread.encode())}", lambda letter: letter.thread == thread),
         Question("an id of more than 64 characters", f"id:{long_id}", f"id:{long_id}", lambda letter: letter.id == long_id),
         Question("a phrase", '"the red fox jumps"', '"the red fox jumps"', has("the red fox jumps")),
         Question("two words near", "fox NEAR/4 red", "fox NEAR/4 red", lambda letter: has("the red fox jumps")(letter) or has("fox of the deep red")(letter)),

@@ -543,14 +543,20 @@ class Folders(Case):
 
         def kill(makers):
             if len(makers.under_way) == 2:
-                makers.under_way[0][0].process.kill()
+                makers.program.kill()
+
+        def kill_all(makers):
+            if len(makers.under_way) == 2:
+                os.killpg(makers.program.pid, signal.SIGKILL)
 
         alone = made(1)
         self.assertEqual([name for name, _ in alone], [str(number) for number in range(100)])
         self.assertEqual(alone[7], ("7", "no 7"))
         with mock.patch.object(making, "SECONDS_ALONE", -1):
             self.assertEqual(made(2), alone)
-            self.assertEqual(made(2, kill), alone)
+            for ending in (kill, kill_all):
+                self.assertEqual(made(2, ending), alone)
+            self.assertEqual(made(4), alone)
             # What no other process can be given is made here.
             makers = making.Makers(2)
             makers.put(making.Job("a", lambda: Text("", "b"), False, False))

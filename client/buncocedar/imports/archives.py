@@ -157,10 +157,10 @@ def folder(top, known):
     met = set()
     for _ in range(LOOKS):
         faults, fresh = {}, set()
-        for identity, below, entries in files(top, faults):
+        for identity, path, below, entries in files(top, faults):
             if identity in met:
                 continue
-            fault = yield from without_fault(entries(os.path.join(top, below), below, known))
+            fault = yield from without_fault(entries(path, below, known))
             if fault is None:
                 fresh.add(identity)
             else:
@@ -184,7 +184,8 @@ def without_fault(entries):
 
 
 def files(top, faults):
-    """The files of a folder that may have messages, each behind what of its path stays as it is read, with the call that reads it.
+    """The files of a folder that may have messages: of each what of its path stays as it is read, its path, that below the folder,
+    and the call that reads it.
 
     What is not looked into goes to the faults, by its path below the folder.
     """
@@ -198,13 +199,15 @@ def files(top, faults):
         faults.update((relative(link, top), NoText("a link to a folder")) for link in links)
         if os.path.basename(os.path.abspath(path)) in MAILDIR:
             is_mail = True
+            parent, front = os.path.dirname(path), beneath(below, "")
             for name in sorted(names):
-                yield (os.path.dirname(path), name.partition(":")[0]), beneath(below, name), message_file
+                yield (parent, name.partition(":")[0]), f"{path}/{name}", front + name, message_file
         elif not is_maildir:
             for name in sorted(names):
-                if may_be_mail(os.path.join(path, name), faults, top):
+                file = os.path.join(path, name)
+                if may_be_mail(file, faults, top):
                     is_mail = True
-                    yield (path, name), beneath(below, name), any_file
+                    yield (path, name), file, beneath(below, name), any_file
     if not is_mail:
         faults.setdefault(".", Unseen("no mail: it has no folder cur or new, and no file of messages"))
 
@@ -247,19 +250,15 @@ def is_mail_head(head):
 
 
 def message_file(path, below, known):
-    """The one message of a file."""
+    """The one message of a file, in a list."""
     place = Place(below).spelled()
     try:
         found = os.stat(path)
     except OSError as error:
-        yield Entry(place, Unseen(error.strerror))
-        return
+        return [Entry(place, Unseen(error.strerror))]
     mark = f"{found.st_size} {found.st_mtime_ns}"
     name = known.name_at(place, mark)
-    if name:
-        yield Entry(place, functools.partial(content_of, path), mark, name)
-    else:
-        yield Entry(place, content_of(path), mark)
+    return [Entry(place, functools.partial(content_of, path), mark, name) if name else Entry(place, content_of(path), mark)]
 
 
 def any_file(path, below, known):

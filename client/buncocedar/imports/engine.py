@@ -368,6 +368,8 @@ class Import:
         if self.summary.counts["refused"] or self.sent:
             return
         read = set(self.known.noted)
+        if not read:
+            return
         stale = [place for place, (name, _) in self.known.places.items() if place not in self.repeated and place_of(place).path in read]
         self.stamps.drop_repeats(self.source, stale)
         self.stamps.put_marks(self.source, self.options.form, self.known.noted)

@@ -70,6 +70,7 @@ COLUMNS = "numbers, stamp, source, place, content, mark, notes"
 _NAME = "[!-~]{1,64}"
 _PART = re.compile("(.+)~p([1-9][0-9]*)", re.DOTALL)
 _NUMBERED = re.compile(".+~([1-9][0-9]*)", re.DOTALL)
+_QUOTED = re.compile(rb"[^A-Za-z0-9_.~/-]")
 _PLACE = re.compile(r"([^@]*)(?:@([0-9]+)\+([0-9]+))?")
 # The lines of an older version.
 _STAMP = re.compile(f"({_NAME}) ([1-9][0-9]*(?:,[1-9][0-9]*)*) ([0-9a-f]{{32}}) ([0-9a-f]{{8}})(?: (?=[!-~])([!-?A-~]*(?:@[0-9]+\\+[0-9]+)?)(?: ([0-9a-f]{{32}}))?)?".encode())
@@ -135,7 +136,12 @@ class Place(NamedTuple):
 
     def spelled(self):
         piece = "" if self.begin is None else f"@{self.begin}+{self.length}"
-        return quote(os.fsencode(self.path)) + piece
+        return spelled_path(self.path) + piece
+
+
+def spelled_path(path):
+    """A path as in URLs: what `quote` of the standard library gives, which looks at each byte where one is no letter."""
+    return _QUOTED.sub(lambda byte: b"%%%02X" % ord(byte[0]), os.fsencode(path)).decode()
 
 
 def place_of(text):
@@ -385,7 +391,7 @@ class Stamps(Records):
             known = digest(f"{known} {kind} {path}".encode(errors="surrogatepass"), 4)
         if known not in self.sources:
             self.sources[known] = wanted
-            self._write("INSERT INTO sources VALUES (?, ?, ?)", [(known, kind, quote(os.fsencode(path)))])
+            self._write("INSERT INTO sources VALUES (?, ?, ?)", [(known, kind, spelled_path(path))])
         return known
 
     def put(self, stamps):
@@ -403,7 +409,7 @@ class Stamps(Records):
 
     def put_marks(self, source, form, marks):
         """Writes the marks of files that were read to their end."""
-        rows = [(source, quote(os.fsencode(path)), form, *mark) for path, mark in marks.items()]
+        rows = [(source, spelled_path(path), form, *mark) for path, mark in marks.items()]
         self._write("INSERT OR REPLACE INTO files VALUES (?, ?, ?, ?, ?, ?, ?, ?, ?)", rows)
 
     def drop(self, names):

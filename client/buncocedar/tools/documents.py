@@ -11,7 +11,7 @@ import re
 import tempfile
 
 from ..document import Text, Unfit
-from ..imports import archives, folder, mail, messages, packages
+from ..imports import archives, folder, header, mail, messages, packages
 from ..imports.packed import is_packed
 from ..imports.stamps import STEM_LIMIT, Records, part_of, stamps_path, stem_of
 from ..terminal import edited
@@ -99,8 +99,8 @@ def moment_at(found):
         if found.kind == "folder":
             return os.stat(found.path).st_mtime
         if found.kind == "mail":
-            fields, _ = messages.parted(archives.raw_at(found))
-            date = email.utils.parsedate_tz(messages.decoded(messages.value(fields, b"date"))[: mail.DATE_LIMIT])
+            fields, _ = header.parted(archives.raw_at(found))
+            date = email.utils.parsedate_tz(header.decoded(fields.value(b"date"))[: messages.DATE_LIMIT])
             return None if date is None else email.utils.mktime_tz(date)
     except (OSError, ValueError, OverflowError, TypeError, IndexError):
         pass
