@@ -24,7 +24,7 @@ TOP = os.path.dirname(os.path.dirname(os.path.abspath(__file__)))
 sys.path.insert(0, os.path.join(TOP, "client"))
 
 from buncocedar import Index  # noqa: E402
-from buncocedar.imports.fields import thread_word, with_names  # noqa: E402
+from buncocedar.imports.fields import thread_word  # noqa: E402
 from buncocedar.imports.stamps import name_of  # noqa: E402
 
 PEOPLE = [
@@ -234,7 +234,7 @@ class Bunco:
         self.ids = {name_of(letter.id): letter.id for letter in known}
 
     def found(self, query):
-        return {self.ids.get(name, name) for _, name in self.index.search(with_names(query))}
+        return {self.ids.get(name, name) for _, name in self.index.search(query)}
 
 
 def main():

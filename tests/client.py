@@ -34,6 +34,7 @@ import buncocedar
 import fake
 from buncocedar import Index, beside, errors, holders, making, texts
 from buncocedar.exchange import LINES_UNDER_WAY
+from buncocedar.imports.stamps import name_of
 
 FAKE = fake.installed()
 PROGRAM = None
@@ -168,6 +169,18 @@ class Calls(Case):
         # What was answered stands in the file.
         with self.fake() as index:
             self.assertEqual(index.stats().documents, 1)
+
+    def test_ids(self):
+        """A query's `id:` goes out as the name of that message, in each call that takes one; a line from elsewhere goes as it is."""
+        with self.fake() as index:
+            index.add("a", "", f"name:a@x name:{name_of('b' * 90 + '@x')} id:c")
+            for query, found in (("id:a@x", 1), (f"id:<{'b' * 90}@x> id:a@x", 1), ("id:c", 0), ('"id:c"', 0)):
+                self.assertEqual(index.count(query), found, query)
+                self.assertEqual(len(list(index.search(query))), found)
+                self.assertEqual(index.top(query, 1).found, found)
+                self.assertEqual(len(list(index.cursor(query))), found)
+            self.assertEqual(index.answer(b"count id:c"), ["found 1"])
+            self.assertEqual(index.answer(b"count id:a@x"), ["found 0"])
 
     def test_replacing(self):
         with self.fake() as index:

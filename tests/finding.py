@@ -147,7 +147,7 @@ class Hints(Case):
         self.assertEqual(len(said), 2)
         self.assertIn("from: is no field of a query", said[0])
         self.assertIn("here it is title:", said[1])
-        self.assertEqual(list(hints.field_hints("from:ann", lambda query: asked.append(query) or 3)), [])
+        self.assertEqual(list(hints.field_hints("from:ann id:b@x", lambda query: asked.append(query) or 3)), [])
         self.assertEqual(asked, ['"from:ann"'])
 
     def test_one_spelling(self):

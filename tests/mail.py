@@ -18,6 +18,7 @@ from unittest import mock
 from support import run_tests  # isort: skip
 
 from buncocedar import LINE_LIMIT, Index
+from buncocedar.ids import with_names
 from buncocedar.imports import archives, fields, mail, messages, stamps
 from buncocedar.imports.cms import signed_content
 from buncocedar.imports.header import parted
@@ -473,7 +474,7 @@ class Fields(Case):
             (f"(id:<{long}> OR id:b@x)", f"(name:{name_of(long)} OR name:b@x )"),
             ('"id:a@x" grid:a NOT id:b', '"id:a@x" grid:a NOT name:b'),
         ]:
-            self.assertEqual(fields.with_names(query), asked)
+            self.assertEqual(with_names(query), asked)
         # A number in an id is no value of its message.
         self.assertFalse([word for word in self.terms(b"Message-ID: <20240131.1@x.org>") if "2024" in word])
 
@@ -636,7 +637,7 @@ class RealProgram(Case):
                 ('"by core.eol here"', [1]), ('"eol here"', [2]), ("core.eol", [1]), ("example", [1, 2]),
                 (f"thread:{fields.thread_word(b'one@x.org')}", [1, 2]),
             ]:
-                self.assertEqual([number for number, _ in index.search(fields.with_names(query))], found, query)
+                self.assertEqual([number for number, _ in index.search(query)], found, query)
 
 
 def take_program(path):

@@ -1,5 +1,7 @@
 """The queries of an index: each can be sent and waited for by one call, or sent by a call that answers its `Reply` at once.
 
+In a query `id:` stands for the name of the message that has this Message-ID (`ids.py`), of whatever length.
+
 Who asks several indexes sends to all of them before the first reply is waited for, so that they work at the same time.
 """
 
@@ -9,6 +11,7 @@ from typing import Iterable, Iterator, List, Union
 
 from .cursors import Cursor
 from .exchange import Exchange
+from .ids import with_names
 from .lines import LINE_LIMIT, too_long
 from .replies import (
     CURSOR,
@@ -105,7 +108,7 @@ class Queries:
         return self._exchange.send(b"dump", "dump", DUMP_END, first_number, DUMPED)
 
     def _ask(self, word, query, last, made, lines=None, behind=b"", after_refusal=False):
-        query = one_line(query, "a query")
+        query = with_names(one_line(query, "a query"))
         line = f"{word} {query}".encode()
         if len(line) > LINE_LIMIT:
             raise too_long(len(line), word)

@@ -1,8 +1,5 @@
 """Exact words for the fields of a message, as `from:ann` and `list:debian-devel`, and what an archive notes of it."""
 
-# There is no word for a message's id: most ids begin with digits, which would part it into `id` and a number, and each message
-# would be found by them. Its name says the same, so a query's `id:` becomes `name:`.
-
 # By Unicode's word boundaries a colon between letters is inside of a word, so `from:ann` is one. These words stand behind the
 # lines of the header and are shown nowhere. Of an address there are the whole, the words before the `@`, and its domains
 # down to the last but one; of a name its words.
@@ -12,11 +9,10 @@
 import re
 
 from .header import heading
-from .stamps import digest, name_of
+from .stamps import digest
 
 APART = re.compile(r"[\s<>,;:\"()]+")
 IDS = re.compile(rb"<([^<>\s]+)>")
-ASKED_ID = re.compile(r"(?<![^\s(])id:([^\s()]+)(?=(\)?))")
 FIELD_LIMIT = 65_536  # bytes of a field that are looked at for addresses
 DOMAIN_LIMIT = 255  # characters that a domain has at most (RFC 1035, section 2.3.4)
 ADDRESSES = {"from": b"from", "to": b"to", "cc": b"cc", "bcc": b"bcc"}
@@ -63,13 +59,6 @@ def list_words(header):
 def id_of(header):
     """The Message-ID, without its brackets, as bytes; empty where there is none."""
     return re.sub(rb"^.*<|>.*$", b"", header.value(b"message-id")).strip()
-
-
-def with_names(query):
-    """A query in which each `id:` stands for the name of the message that has this id, outside of quotes."""
-    pieces = query.split('"')
-    pieces[::2] = [ASKED_ID.sub(lambda asked: f"name:{name_of(asked[1].strip('<>'))}{asked[2] and ' '}", piece) for piece in pieces[::2]]
-    return '"'.join(pieces)
 
 
 def thread_of(header, own):

@@ -42,6 +42,12 @@ def date_of(text):
     return f"{day} {day.replace('-', '')}"
 
 
+def moment_of(raw):
+    """When a message was sent by its Date, in seconds since 1970, None where that is not known."""
+    date = email.utils.parsedate_tz(decoded(parted(raw)[0].value(b"date"))[:DATE_LIMIT])
+    return None if date is None else email.utils.mktime_tz(date)
+
+
 def sent_at(header):
     """The field that says when a message was sent, or was received last; none where it has neither."""
     dates = header.values(b"date")[:1]

@@ -6,7 +6,6 @@ import unicodedata
 from typing import Any, NamedTuple, Optional
 
 from ..errors import NotUtf8, Refused, UnknownCommand
-from ..imports.fields import with_names
 from ..replies import MOST_BEST
 from ..terminal import paged
 from .hints import field_hints, operator_hints, spelling_hints
@@ -47,7 +46,7 @@ def say(text):
 def take(index, query, view, limit, top=None):
     """Takes the answer to a query from the index; where `top` is given so many of the best. A fault is told."""
     # Texts are stored with composed letters.
-    query = with_names(unicodedata.normalize("NFC", query))
+    query = unicodedata.normalize("NFC", query)
     try:
         if not is_text(query):
             # As the program says it: in a query of the client these bytes would stand for others.

@@ -5,18 +5,24 @@
 # written. The index is let go before the editor begins, but at the prompt, which has it as long as it runs.
 
 import contextlib
-import email.utils
+import importlib
 import os
 import re
 import tempfile
 
 from ..document import Text, Unfit
-from ..imports import archives, folder, header, mail, messages, packages
 from ..imports.packed import is_packed
 from ..imports.stamps import STEM_LIMIT, Records, part_of, stamps_path, stem_of
 from ..terminal import edited
 
-READERS = {"folder": folder.read, "mail": mail.read, "packages": packages.read}
+KINDS = ("folder", "mail", "packages")  # of imports, each a module that reads a document again
+
+
+def read(found):
+    """The text of a document where it was found. Its import is loaded here: what counts answers needs none."""
+    if found.kind not in KINDS:
+        raise Unfit(f"this version knows no bunco {found.kind}")
+    return importlib.import_module(f"..imports.{found.kind}", __package__).read(found)
 
 
 class Places:
@@ -77,7 +83,7 @@ class Places:
 def text_at(found):
     """The text of a document, or in its place why there is none."""
     try:
-        return READERS[found.kind](found)
+        return read(found)
     except FileNotFoundError:
         return "gone"
     except (OSError, Unfit) as fault:
@@ -99,9 +105,9 @@ def moment_at(found):
         if found.kind == "folder":
             return os.stat(found.path).st_mtime
         if found.kind == "mail":
-            fields, _ = header.parted(archives.raw_at(found))
-            date = email.utils.parsedate_tz(header.decoded(fields.value(b"date"))[: messages.DATE_LIMIT])
-            return None if date is None else email.utils.mktime_tz(date)
+            from ..imports import archives, messages
+
+            return messages.moment_of(archives.raw_at(found))
     except (OSError, ValueError, OverflowError, TypeError, IndexError):
         pass
     return None
