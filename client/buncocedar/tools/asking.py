@@ -63,8 +63,9 @@ def take(index, query, view, limit, top=None):
 
 def taken(index, query, view, limit, top):
     options, places = view.options, view.places
-    if options.count and not places.has_parts():
-        return Answered((), index.count(query))
+    if options.count and not options.thread:
+        whole = whole_documents(index.search(query), places) if places.has_parts() else None
+        return Answered((), index.count(query) if whole is None else sum(1 for _ in whole))
     if top is not None:
         rows = Best(index, query, top, places)
         return Answered(rows, rows.total)

@@ -32,17 +32,19 @@ class Places:
         self.path = stamps_path(index)
         self.moved = moved
         self.read = None
+        self.in_parts = frozenset()  # the names of the documents that are stored in parts
         self.long_stems = {}
 
     def records(self):
         if self.read is None:
             self.read = Records(self.path)
-            self.long_stems = {stem_of(name): name for name in self.read.in_parts() if len(name) > STEM_LIMIT}
+            self.in_parts = frozenset(self.read.in_parts())
+            self.long_stems = {stem_of(name): name for name in self.in_parts if len(name) > STEM_LIMIT}
         return self.read
 
     def document(self, name):
         """The name of the document that has this one as a part; any other name is a document's own."""
-        part = part_of(name)
+        part = part_of(name) if "~p" in name else None
         if part is None:
             return name
         records = self.records()
@@ -59,8 +61,8 @@ class Places:
 
     def is_in_parts(self, name):
         """Whether the document of this name is stored in parts."""
-        stamp = self.records().stamp(name)
-        return stamp is not None and len(stamp.numbers) > 1
+        self.records()
+        return name in self.in_parts
 
     def moment(self, name):
         """When a document was written, in seconds since 1970, None where that is not known."""
@@ -74,7 +76,8 @@ class Places:
         return thread_of(text) if isinstance(text, Text) else ""
 
     def has_parts(self):
-        return bool(self.records().in_parts())
+        self.records()
+        return bool(self.in_parts)
 
     def found(self, name):
         return self.records().found(name, self.moved)
