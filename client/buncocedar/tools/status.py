@@ -16,7 +16,7 @@ from ..errors import Error
 from ..fileformat import HEAD, Unusable, read_root
 from ..holders import holder
 from ..imports.stamps import Records, stamps_path
-from ..index import Index
+from ..index import SECONDS_FOR_A_SERVER, Index
 from ..links import connected
 
 STOPPED = 3
@@ -49,12 +49,16 @@ def of_program(path, patience):
         return index.stats()._asdict()
 
 
-def of_server(path):
-    """What the server of the index says of its clients; nothing where none listens, or an older one."""
-    service = connected(path)
+def of_server(path, patience):
+    """What the server of the index says of its clients; nothing where none listens, or an older one.
+
+    Raises `InUse` or `OSError` where it gives no answer for so many seconds, or for five where that is more.
+    """
+    seconds = max(patience, SECONDS_FOR_A_SERVER)
+    service = connected(path, seconds)
     if service is None:
         return {}
-    service.connection.setblocking(True)
+    service.connection.settimeout(seconds)
     with service.connection as connection, connection.makefile("rwb") as lines:
         lines.write(b"figures\n")
         lines.flush()
@@ -89,7 +93,7 @@ def main(arguments=None):
     options = parser().parse_args(arguments)
     path, faults = options.index, []
     known = {"holder": holder(path), "sources": []}
-    for look in (of_file, of_server, lambda path: of_program(path, options.wait), lambda path: {"sources": of_stamps(path)}):
+    for look in (of_file, lambda path: of_server(path, options.wait), lambda path: of_program(path, options.wait), lambda path: {"sources": of_stamps(path)}):
         try:
             known.update(look(path))
         except (Error, OSError, Unusable) as error:
