@@ -379,6 +379,18 @@ class Folders(Case):
         self.assertNotIn("not seen", said)
         self.assertEqual(len(self.stored()), 5)
 
+    def test_what_is_no_text_any_more(self):
+        """The text of a file that is none now is gone; of one that can't be read nobody knows."""
+        notes = self.notes(3)
+        self.run_script("folder", self.path, notes)
+        self.write("notes/000.txt", b"\0binary")
+        self.write("notes/001.txt", b"\xff\xfe no UTF-8")
+        said = self.run_script("folder", self.path, notes, expect=1)
+        self.assertIn("1 passed over, 1 refused", said)
+        self.assertIn("1 document of earlier runs not seen any more, and still in the index", said)
+        self.run_script("folder", "--prune", self.path, notes, expect=1)
+        self.assertEqual(sorted(self.stored()), ["001.txt", "002.txt"])
+
     def test_what_cannot_be_seen_is_not_gone(self):
         source = stamps.Source("folder", self.place.name)
         text = Text("", "text")

@@ -405,6 +405,26 @@ class Mail(Case):
         self.main(mail, self.path, path)
         self.assertEqual(sorted(self.stored()), ["one@x", "three@x", "two@x"])
 
+    def test_a_message_of_two_archives(self):
+        """Gone from the one that was read last, it belongs to the other as long as that is there."""
+        one, two = LETTER % (b"one", b"one", b"one"), LETTER % (b"two", b"two", b"two")
+        first, second = self.write("first.mbox", one + b"\n" + two), self.write("second.mbox", one + b"\n" + two)
+        self.main(mail, self.path, first, second)
+        self.write("second.mbox", two)
+        self.assertNotIn("not seen", self.main(mail, "--prune", self.path, second))
+        self.assertEqual(sorted(self.stored()), ["one@x", "two@x"])
+        self.assertEqual(stamps.Records(self.path + ".stamps").found("one@x").path, first)
+        self.assertIn("0 added, 2 unchanged", self.main(mail, self.path, first))
+        self.write("first.mbox", two)
+        self.assertIn("1 document of earlier runs not seen any more, and deleted", self.main(mail, "--prune", self.path, first))
+        self.assertEqual(sorted(self.stored()), ["two@x"])
+        # An archive that is not there any more has nothing.
+        self.main(mail, self.path, second)
+        os.remove(first)
+        self.write("second.mbox", one)
+        self.assertIn("deleted", self.main(mail, "--prune", self.path, second))
+        self.assertEqual(sorted(self.stored()), ["one@x"])
+
     def test_another_message_of_one_name(self):
         """One that comes before the one that the index has leaves that one in it."""
         self.write("Mail/cur/m", b"Message-ID: <a@x>\n\nfirst\n")

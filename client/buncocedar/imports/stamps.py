@@ -62,6 +62,7 @@ CREATE TABLE IF NOT EXISTS stamps (name TEXT PRIMARY KEY, numbers TEXT NOT NULL,
     place TEXT NOT NULL, content TEXT NOT NULL, mark TEXT NOT NULL, notes TEXT NOT NULL) WITHOUT ROWID;
 CREATE INDEX IF NOT EXISTS in_parts ON stamps (name) WHERE instr(numbers, ',') > 0;
 CREATE TABLE IF NOT EXISTS repeats (source TEXT, place TEXT, name TEXT NOT NULL, mark TEXT NOT NULL, PRIMARY KEY (source, place)) WITHOUT ROWID;
+CREATE INDEX IF NOT EXISTS repeated ON repeats (name);
 CREATE TABLE IF NOT EXISTS files (source TEXT, path TEXT, form TEXT NOT NULL, size INTEGER NOT NULL, mtime INTEGER NOT NULL,
     front INTEGER NOT NULL, digest TEXT NOT NULL, before INTEGER NOT NULL, count INTEGER NOT NULL, PRIMARY KEY (source, path)) WITHOUT ROWID;
 """
@@ -334,6 +335,12 @@ class Records:
         rows = self.base.execute("SELECT source, place, name, mark FROM repeats")
         return [(place, name, mark) for source, place, name, mark in rows if source in sources]
 
+    def elsewhere(self, name):
+        """Where else a document stands: the source, the place in it, and the mark."""
+        with self._said():
+            rows = self.base.execute("SELECT source, place, mark FROM repeats WHERE name = ?", (name,)).fetchall()
+        return [row for row in rows if row[0] in self.sources]
+
     def marks(self, sources, form):
         """The marks of the files of these sources that were read to their end in this form."""
         rows = self.base.execute("SELECT source, path, size, mtime, front, digest, before, count FROM files WHERE form = ?", (form,))
@@ -446,7 +453,7 @@ class Stamps(Records):
 
 def stamp_of(row):
     numbers, *rest = row
-    return Stamp(tuple(map(int, numbers.split(","))), *rest)
+    return Stamp(tuple(map(int, numbers.split(","))) if "," in numbers else (int(numbers),), *rest)
 
 
 def row_of(stamp):
