@@ -1192,6 +1192,8 @@ class Find(Case):
         self.assertIn("25 24\r\n24 23\r\n", shown)
         self.assertIn("6 05\r\n... and 5 more\r\nfound 25\r\n", shown)
         self.assertIn("! query 2 Word", self.said)
+        self.typed(b"show\n", b"quit\n")
+        self.assertIn('show N is of document N, or of the one of this name; "show" in quotes is looked for', self.said)
         shown = self.typed(b"help\n", b"show 3\n", b"show 24\n", b"quit\n", words=("--context",))
         self.assertEqual(self.status, 0)
         self.assertIn("show N    prints document N", shown)

@@ -305,6 +305,20 @@ class Mail(Case):
             self.assertLessEqual(wanted, set(found.values()), (old, new, moment))
             self.assertLessEqual(set(found.values()), {b"a", b"b", b"c", b"d", b"e"}, (old, new, moment))
 
+    def test_a_message_that_has_moved_since(self):
+        """A reader of mail has looked at it, and it is shown before the next import has seen that."""
+        self.write("Mail/new/1.a", b"Message-ID: <a@x>\nSubject: s\n\nthe fox\n")
+        self.write("Mail/new/1.ab", b"Message-ID: <ab@x>\nSubject: s\n\nthe dog\n")
+        self.main(mail, self.path, self.at("Mail"))
+        os.makedirs(self.at("Mail/cur"))
+        found = stamps.Records(self.path + ".stamps").found("a@x")
+        os.rename(self.at("Mail/new/1.a"), self.at("Mail/cur/1.a:2,S"))
+        self.assertEqual(documents.text_at(found).body, "the fox\n")
+        os.rename(self.at("Mail/cur/1.a:2,S"), self.at("Mail/cur/1.a:2,RS"))
+        self.assertEqual(documents.text_at(found).body, "the fox\n")
+        os.remove(self.at("Mail/cur/1.a:2,RS"))
+        self.assertEqual(documents.text_at(found), "gone")
+
     def test_what_of_a_maildir_cannot_be_seen(self):
         message = b"Message-ID: <%d@x>\n\ntext\n"
         self.write("Mail/cur/1:2,", message % 1)

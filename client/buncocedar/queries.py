@@ -44,7 +44,7 @@ class Queries:
         reply.begin()
         return reply.each()
 
-    def send_search(self, query: str) -> Reply:
+    def send_search(self, query: str) -> Reply[int]:
         """Sends what `search` sends: `each` of its `Reply` gives the rows, and `result` how many they are."""
         return self._ask("search", query, FOUND, first_number, ROWS)
 
@@ -55,7 +55,7 @@ class Queries:
         """
         return self.send_top(query, count).result()
 
-    def send_top(self, query: str, count: int) -> Reply:
+    def send_top(self, query: str, count: int) -> Reply[Top]:
         """Sends what `top` sends: the `result` of its `Reply` is the `Top`."""
         return self._ask(f"top {whole(count, 'count')}", query, FOUND, lambda last, rows: Top(list(rows), int(last[1])), SCORED)
 
@@ -63,7 +63,7 @@ class Queries:
         """How many live documents match. Raises `QueryFault`."""
         return self.send_count(query).result()
 
-    def send_count(self, query: str) -> Reply:
+    def send_count(self, query: str) -> Reply[int]:
         """Sends what `count` sends: the `result` of its `Reply` is the number."""
         return self._ask("count", query, FOUND, first_number)
 
@@ -71,7 +71,7 @@ class Queries:
         """The query's canonical spelling and, in the lines behind it, its plan. Raises `QueryFault`."""
         return self.send_explain(query).result()
 
-    def send_explain(self, query: str) -> Reply:
+    def send_explain(self, query: str) -> Reply[str]:
         """Sends what `explain` sends: the `result` of its `Reply` is the text."""
         # The reply's end shows only by the next reply's begin.
         return self._ask("explain", query, STATS, lambda last, rows: "\n".join(rows), TEXTS, behind=b"stats\n", after_refusal=True)
@@ -80,7 +80,7 @@ class Queries:
         """A `Cursor` over the documents that match now. Raises `QueryFault` and `TooManyCursors`."""
         return self.send_open(query).result()
 
-    def send_open(self, query: str) -> Reply:
+    def send_open(self, query: str) -> Reply[Cursor]:
         """Sends what `cursor` sends: the `result` of its `Reply` is the `Cursor`."""
         return self._ask("open", query, CURSOR, lambda last, rows: Cursor(self, int(last[1])))
 
@@ -88,7 +88,7 @@ class Queries:
         """The `Stats` of the index."""
         return self.send_stats().result()
 
-    def send_stats(self) -> Reply:
+    def send_stats(self) -> Reply[Stats]:
         """Sends what `stats` sends: the `result` of its `Reply` is the `Stats`."""
         return self._exchange.send(b"stats", "stats", STATS, lambda last, rows: Stats(int(last[1]), int(last[2]), int(last[3])))
 
@@ -103,7 +103,7 @@ class Queries:
         reply.begin()
         return reply.each()
 
-    def send_dump(self) -> Reply:
+    def send_dump(self) -> Reply[int]:
         """Sends what `dump` sends: `each` of its `Reply` gives what `dump` gives, and `result` how many documents have a line."""
         return self._exchange.send(b"dump", "dump", DUMP_END, first_number, DUMPED)
 

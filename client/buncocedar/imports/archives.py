@@ -9,6 +9,8 @@
 # A message of a Maildir never changes under its name, and an mbox mostly grows. So what was brought in before is not read
 # again: a file by its size and time, and of an mbox the front up to its last message by its digest.
 
+import contextlib
+import errno
 import functools
 import hashlib
 import itertools
@@ -305,7 +307,28 @@ def stream(path):
 
 
 def raw_at(found):
-    """The bytes of a message that was brought in, where it stands there still."""
-    with opened(found.path) as file:
+    """The bytes of a message that was brought in, where it stands there still: in a Maildir also where it was moved or renamed since."""
+    try:
+        file = opened(found.path)
+    except FileNotFoundError:
+        file = opened(moved_to(found.path))
+    with file:
         file.seek(found.begin or 0)
         return file.read(-1 if found.begin is None else found.length)
+
+
+def moved_to(path):
+    """The path of the message of a Maildir that stood here: it keeps the front of its name, before what its reader notes.
+
+    Raises `FileNotFoundError` where it is in no folder beside.
+    """
+    folder, name = os.path.split(path)
+    if os.path.basename(folder) in MAILDIR:
+        front = name.partition(":")[0]
+        for beside in MAILDIR:
+            place = os.path.join(os.path.dirname(folder), beside)
+            with contextlib.suppress(FileNotFoundError), os.scandir(place) as entries:
+                for entry in entries:
+                    if entry.name.partition(":")[0] == front:
+                        return entry.path
+    raise FileNotFoundError(errno.ENOENT, os.strerror(errno.ENOENT), path)

@@ -154,6 +154,9 @@ class Asking:
             return 0
         if len(words) == 2 and words[0] in self.commands:
             return self.document(*words)
+        if len(words) == 1 and words[0] in self.commands:
+            say(f'{words[0]} N is of document N, or of the one of this name; "{words[0]}" in quotes is looked for')
+            return FAULT
         if len(words) > 2 and words[0] == "top" and words[1].isdecimal() and len(words[1]) <= 4 and 1 <= int(words[1]) <= MOST_BEST:
             return self.ask(line.split(None, 2)[2], int(words[1]))
         return self.ask(line, self.top)
