@@ -1,7 +1,7 @@
 #!/usr/bin/env python3
 """Asks the same questions of mail of notmuch and of an index, and says what each finds of what is right.
 
-usage: bench/questions.py [--messages N] [--seed S] [--program PATH]
+usage: bench/questions.py [--messages N] [--seed S] [--mail FOLDER] [--program PATH]
 
 The mail is made from the seed: a Maildir with folders, in which each question has answers that are known from the making.
 notmuch is Debian's (apt-get install notmuch). Printed is a line for each question: how many messages are right, how many each
@@ -241,14 +241,15 @@ def main():
     parser = argparse.ArgumentParser(description=__doc__, formatter_class=argparse.RawDescriptionHelpFormatter)
     parser.add_argument("--messages", type=int, default=3_000)
     parser.add_argument("--seed", type=int, default=1)
+    parser.add_argument("--mail", metavar="FOLDER", help="where the mail is made; what such a run has made there is used again")
     parser.add_argument("--program")
     options = parser.parse_args()
     if shutil.which("notmuch") is None:
         sys.exit("questions: notmuch is missing (Debian: apt-get install notmuch)")
     with tempfile.TemporaryDirectory() as place:
-        top = os.path.join(place, "Mail")
+        top = options.mail or os.path.join(place, "Mail")
         known = list(letters(options.messages, random.Random(options.seed)))
-        for number, letter in enumerate(known):
+        for number, letter in enumerate([] if os.path.exists(top) else known):
             put(top, number, letter)
         notmuch, bunco = Notmuch(top, place), Bunco(top, place, options.program, known)
         print(f"{'question':34} {'right':>6} {'notmuch':>8} {'right':>6} {'bunco':>6} {'right':>6} {'both':>6}")
