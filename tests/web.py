@@ -608,6 +608,17 @@ class InABrowser(Case):
         browser.until("location.search === '?q=quick+brown'")
         self.assertEqual(browser.complaints(), [])
 
+    def test_what_is_typed_is_shown_as_what_is_loaded(self):
+        browser = self.begin()
+        for query in ("quick", "zebra", FAULTY if PROGRAM is FAKE else "fox \u65e5)"):
+            browser.value("(box.value = '', box.focus())")
+            browser.type(query)
+            browser.until(f"location.search && shown === addressOf({{ q: {json.dumps(query)}, order: 'best' }})")
+            typed = browser.value("document.getElementById('main').innerHTML + document.title")
+            browser.open(f"http://127.0.0.1:{self.port}/?q={quote(query)}")
+            loaded = browser.value("document.getElementById('main').innerHTML + document.title")
+            self.assertEqual(typed, loaded)
+
     def test_keys(self):
         browser = self.begin("/?q=quick&order=newest")
         browser.press("ArrowDown")
