@@ -259,6 +259,20 @@ class Folders(Case):
                 module.module()
         self.assertIn("BUNCOCEDAR_MODULE", str(raised.exception))
 
+    def hides(self, deleted):
+        """Makes a site, which has the one document that is there, and nothing of the words of these."""
+        with open(self.path, "rb") as file:
+            before = file.read()
+        self.made()
+        with open(self.path, "rb") as file:
+            self.assertEqual(file.read(), before)
+        data = self.unpacked(self.table()["index"]["name"])
+        for word, is_there in ((b"openly", True), *((word, False) for word in deleted)):
+            self.assertEqual((word in before, word in data), (True, is_there), word)
+        copy = self.unpacked_index()
+        self.assertEqual(run_lines(PROGRAM, copy, ["count openly", "stats"])[1][0], "found 1")
+        self.bunco("check", copy)
+
     def test_nothing_of_deleted_documents(self):
         with Index(self.path, create=True) as index:
             index.add("gone", "", "secretly")
@@ -268,17 +282,17 @@ class Folders(Case):
             index.delete("gone")
             index.delete("gonetoo")
             index.flush()
-        with open(self.path, "rb") as file:
-            before = file.read()
-        self.made()
-        with open(self.path, "rb") as file:
-            self.assertEqual(file.read(), before)
-        data = self.unpacked(self.table()["index"]["name"])
-        for word, is_there in ((b"openly", True), (b"secretly", False), (b"hiddenly", False)):
-            self.assertEqual((word in before, word in data), (True, is_there), word)
-        copy = self.unpacked_index()
-        self.assertEqual(run_lines(PROGRAM, copy, ["stats", "search openly"]), (0, ["documents 1 words 1 next 4", "3 here", "found 1"], ""))
-        self.bunco("check", copy)
+        self.hides((b"secretly", b"hiddenly"))
+
+    def test_nothing_of_an_older_journal(self):
+        with Index(self.path, create=True) as index:
+            index.add("gone", "", "secretly")
+            index.delete("gone")
+            index.flush()
+            index.add("here", "", "openly")
+            index.flush()
+        # There is one level, and nothing to merge.
+        self.hides((b"secretly",))
 
     def test_texts_that_are_gone(self):
         self.filled()
@@ -381,6 +395,15 @@ class InNode(Case):
                 said = node.call("ask", {"q": query, "order": order})
                 self.assertEqual([(row["number"], row["name"], row["title"]) for row in said["rows"]], [(row.number, row.name, row.title) for row in found.rows])
                 self.assertEqual(said["found"], found.found)
+
+    def test_the_line_that_answers_best(self):
+        self.write("notes/lines.txt", "red\nblue red\nfox red\nbrown and slow\nthe slow\nbrown dog\n")
+        self.bunco("folder", self.path, os.path.join(self.folder, "notes"))
+        self.made()
+        node, library = self.opened(), self.library()
+        # The line with most of the words, that in which a phrase begins that goes on in the next, and one for a part of a word.
+        for query, line in (("red fox", 3), ('"slow brown"', 5), ("dog OR lines", 6), ("bro*", 4)):
+            self.assertEqual([row["line"] for row in self.compare(node, library, query, "best")["rows"]], [line])
 
     def test_long_lines(self):
         line = "été 🦊 ß " * 60 + "the red-fox İstanbul " + "ﬁn \u1e9e " * 60

@@ -670,6 +670,15 @@ class InABrowser(Case):
         browser.until("document.querySelector('pre.fault') !== null")
         self.assertEqual(browser.value("document.activeElement.id"), "q")
 
+    def test_somebody_has_it_as_one_types(self):
+        browser = self.begin()
+        until(lambda: self.text("/"))
+        with Index(self.path, patience=PATIENCE):
+            for query in ("quick", ""):
+                browser.value(f"(box.value = {json.dumps(query)}, ask())")
+                browser.until(f"shown === addressOf({{ q: {json.dumps(query)}, order: 'best' }})")
+                self.assertIn("is open in", browser.value("document.querySelector('.fault').textContent"))
+
     def test_without_scripts(self):
         browser = self.begin()
         browser.call("Emulation.setScriptExecutionDisabled", value=True)

@@ -54,13 +54,6 @@ class Part(NamedTuple):
     name: str
 
 
-class Described(NamedTuple):
-    """What is known of some documents: the records by rising number, and the parts."""
-
-    records: List[Record]
-    parts: List[Part]
-
-
 class Unpacked:
     """Files that are packed, each unpacked once however many documents stand in it, in a `with`."""
 
@@ -130,22 +123,35 @@ def record_of(number: int, name: str, stamp: Stamp, found: Found, text: Optional
     )
 
 
-def described(rows: Iterable[Row], places: Places, unpacked: Unpacked) -> Described:
-    """What is known of the documents of an index, whose rows rise by number."""
-    records, parts = [], []
-    for number, name in rows:
-        whole = places.document(name)
-        stamp = places.records().stamp(whole)
-        # A stamp counts only beside the document that it is of.
-        if stamp is None or number not in stamp.numbers:
-            continue
-        if number != stamp.numbers[0]:
-            parts.append(Part(number, stamp.numbers[0], whole))
-            continue
-        found = places.found(whole)
-        if found is not None:
-            records.append(record_of(number, whole, stamp, found, unpacked.text(found)))
-    return Described(records, parts)
+class Documents:
+    """What is known of the documents of an index: `rows` are theirs, by rising number.
+
+    Behind the last record `parts` has the parts of documents, and `texts` says how many records have a text.
+    """
+
+    def __init__(self, rows: Iterable[Row], places: Places) -> None:
+        self.parts: List[Part] = []
+        self.texts = 0
+        self._rows = rows
+        self._places = places
+
+    def records(self) -> Iterator[Record]:
+        """The records by rising number, as their texts are read."""
+        with Unpacked() as unpacked:
+            for number, name in self._rows:
+                whole = self._places.document(name)
+                stamp = self._places.records().stamp(whole)
+                # A stamp counts only beside the document that it is of.
+                if stamp is None or number not in stamp.numbers:
+                    continue
+                if number != stamp.numbers[0]:
+                    self.parts.append(Part(number, stamp.numbers[0], whole))
+                    continue
+                found = self._places.found(whole)
+                if found is not None:
+                    record = record_of(number, whole, stamp, found, unpacked.text(found))
+                    self.texts += record.has_text
+                    yield record
 
 
 def files_of(records: Iterable[Record]) -> Iterator[Tuple[int, bytes]]:

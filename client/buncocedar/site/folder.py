@@ -17,7 +17,7 @@ MARK = "bunco-site.json"
 PAGE = "index.html"
 FILES = "files"
 DIGITS = 16  # of a digest in a name
-OWN = re.compile(rf"[a-z]+\.[0-9a-f]{{{DIGITS}}}\.[a-z]+(\.js)?")
+OWN = re.compile(rf"[a-z]+\.[0-9a-f]{{{DIGITS}}}\.[a-z]+(\.js)?(\.new)?")
 MADE = {"made by": "bunco site"}
 
 

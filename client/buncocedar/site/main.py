@@ -19,7 +19,7 @@ import argparse
 import json
 import os
 import sys
-from typing import List, NamedTuple, Optional
+from typing import List, NamedTuple, Optional, Tuple
 from urllib.parse import urlsplit
 
 from ..errors import CAUSES, Error, NoFile
@@ -30,7 +30,7 @@ from ..web import pages
 from ..web.markup import element
 from ..web.server import FOLDER as SHARED
 from .compacted import compacted
-from .documents import Unpacked, described, files_of
+from .documents import Documents, files_of
 from .folder import FILES, Folder, Taken
 from .module import NoModule, module
 
@@ -88,24 +88,22 @@ def scripts(names: List[str]) -> bytes:
     return b'"use strict";\n{\n' + b"\n".join(read(os.path.join(ASSETS, name)) for name in names) + b"}\n"
 
 
-def put_data(folder: Folder, options: argparse.Namespace, code: bytes) -> "tuple[str, Made]":
+def put_data(folder: Folder, options: argparse.Namespace, code: bytes) -> Tuple[str, Made]:
     """Writes the module, the index and what is known of its documents; answers the name of the table that has the others' names."""
     index = compacted(options.index)
-    with Unpacked() as unpacked:
-        found = described(index.rows, Places(options.index, options.source), unpacked)
-    texts = [(first, folder.put_packed("texts", data)[0]) for first, data in files_of(found.records)]
+    documents = Documents(index.rows, Places(options.index, options.source))
+    texts = [(first, folder.put_packed("texts", data)[0]) for first, data in files_of(documents.records())]
     packed = {what: folder.put_packed(what, data) for what, data in (("module", code), ("index", index.data))}
     table = {
         "base": options.base or "",
         "causes": CAUSES,
-        "parts": found.parts,
+        "parts": documents.parts,
         "texts": texts,
         **{what: {"name": name, "size": size} for what, (name, size) in packed.items()},
     }
     name, size = folder.put_packed("table", json.dumps(table).encode())
     loaded = size + sum(size for _, size in packed.values())
-    part_count = len(found.parts)
-    return name, Made(len(index.rows) - part_count, sum(record.has_text for record in found.records), loaded)
+    return name, Made(len(index.rows) - len(documents.parts), documents.texts, loaded)
 
 
 def page_of(title: str, table: str, folder: Folder) -> bytes:

@@ -4,9 +4,10 @@
 //   home, mark           what stands in an address before the fields of a query: "./" and "?", or "" and "#" where no server reads it
 //   stats(signal)        how many `documents` and `words` there are
 //   ask(fields, signal)  the answers to the query `q` in an `order` from `begin` on: how many were `found`, the `rows`, and where the
-//                        `following` page begins; or a `fault`, with its `place` in the bytes of the query, or null
+//                        `following` page begins
 //   shown(fields, signal)  the document of an answer whose link leads into this page; only where there is no server
 //   failed(address, fault)  what to do where it can't be asked
+// In place of what is asked for may come a `fault`, with its `place` in the bytes of the query, or null.
 // A row has a `title`, a `link` that may be empty, `facts`, a `score` or null, a `line`, the `kind` of the document, and a `snippet` of
 // texts, each of which is `marked` or not. Every text goes into the page as a text, never as HTML.
 "use strict";
@@ -22,7 +23,7 @@ let shown = null; // the address that the page answers
 // --- Elements.
 
 // What no document may have, as `markup.py` says.
-const FORBIDDEN = /[\0-\x08\x0b\x0c\x0e-\x1f\x7f-\x9f\ufffe\uffff]|[\ud800-\udbff](?![\udc00-\udfff])|(?<![\ud800-\udbff])[\udc00-\udfff]/g;
+const FORBIDDEN = /[\0-\x08\x0b\x0c\x0e-\x1f\x7f-\x9f\ud800-\udfff\ufffe\uffff]/gu;
 
 function element(name, attributes, ...content) {
   const made = document.createElement(name);
@@ -110,11 +111,11 @@ function fieldsOfAddress() {
 async function page(fields, signal) {
   if (fields.document) {
     const found = await engine.shown(fields, signal);
-    return found.fault ? [fault(found, fields.q), NAME] : [whole(found), `${found.title} - ${NAME}`];
+    return "fault" in found ? [fault(found, fields.q), NAME] : [whole(found), `${found.title} - ${NAME}`];
   }
-  if (!fields.q) return [welcome(await engine.stats(signal)), NAME];
-  const found = await engine.ask(fields, signal);
-  return "fault" in found ? [fault(found, fields.q), NAME] : [answers(found, fields), `${fields.q} - ${NAME}`];
+  const found = await (fields.q ? engine.ask(fields, signal) : engine.stats(signal));
+  if ("fault" in found) return [fault(found, fields.q), NAME];
+  return fields.q ? [answers(found, fields), `${fields.q} - ${NAME}`] : [welcome(found), NAME];
 }
 
 function put(parts, title) {
@@ -180,7 +181,7 @@ document.getElementById("form").addEventListener("submit", (event) => {
 });
 // A server has the page of each of its addresses.
 if (engine.mark === "?") addEventListener("popstate", () => location.reload());
-else addEventListener("popstate", take);
+else addEventListener("hashchange", take);
 
 // --- Keys.
 
