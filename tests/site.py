@@ -303,6 +303,13 @@ class Folders(Case):
         gone = next(record for record in self.records().values() if record[2] == "a.txt")
         self.assertEqual(gone[6:], ["", "", False, False])
 
+    def test_a_stamp_of_another_document(self):
+        self.filled()
+        with Index(self.path) as index:
+            number = index.add("a.txt", "", "quick, and not the file of this name")
+        self.assertIn("5 documents, 4 of them with their text", self.made())
+        self.assertEqual((self.table()["parts"], number in self.records()), ([], False))
+
     def test_packed_mail_and_long_texts(self):
         with gzip.open(os.path.join(self.folder, "mail.mbox.gz"), "wt") as file:
             file.write(MAIL)
