@@ -13,6 +13,7 @@ import functools
 import gzip
 import hashlib
 import http.server
+import io
 import json
 import os
 import random
@@ -33,7 +34,8 @@ import demo
 import work
 from browser import Browser, chromium
 from buncocedar import Index
-from buncocedar.site import module
+from buncocedar.copying import copy_into
+from buncocedar.site import main, module
 from buncocedar.site.documents import FILE_SIZE, KEPT
 from buncocedar.web import server as web
 from buncocedar.web.answers import Fault, Library
@@ -249,8 +251,11 @@ class Folders(Case):
         for variable, said in (("/nowhere/at.wasm", "No such file"), (self.path, "is no WebAssembly module")):
             with unittest.mock.patch.dict(os.environ, {"BUNCOCEDAR_MODULE": variable}):
                 self.made_not(said)
-        # Where the page can't be made, nothing of it is there.
-        self.assertFalse(os.path.exists(os.path.join(self.site, "index.html")))
+        at_once = unittest.mock.patch("buncocedar.site.compacted.copy_into", functools.partial(copy_into, patience=0))
+        with Index(self.path), at_once, contextlib.redirect_stderr(io.StringIO()) as told:
+            self.assertEqual(main.main([self.path, self.site]), 3)
+        self.assertIn("is in use", told.getvalue())
+        self.assertFalse(os.path.exists(self.site))
 
     def test_the_module_is_looked_for(self):
         with unittest.mock.patch.dict(os.environ), unittest.mock.patch.object(module, "places", return_value=iter(["/nowhere"])):

@@ -29,7 +29,7 @@ from ..tools.documents import Places
 from ..web import pages
 from ..web.markup import element
 from ..web.server import FOLDER as SHARED
-from .compacted import compacted
+from .compacted import Compacted, compacted
 from .documents import Documents, files_of
 from .folder import FILES, Folder, Taken
 from .module import NoModule, module
@@ -88,9 +88,8 @@ def scripts(names: List[str]) -> bytes:
     return b'"use strict";\n{\n' + b"\n".join(read(os.path.join(ASSETS, name)) for name in names) + b"}\n"
 
 
-def put_data(folder: Folder, options: argparse.Namespace, code: bytes) -> Tuple[str, Made]:
+def put_data(folder: Folder, options: argparse.Namespace, code: bytes, index: Compacted) -> Tuple[str, Made]:
     """Writes the module, the index and what is known of its documents; answers the name of the table that has the others' names."""
-    index = compacted(options.index)
     documents = Documents(index.rows, Places(options.index, options.source))
     texts = [(first, folder.put_packed("texts", data)[0]) for first, data in files_of(documents.records())]
     packed = {what: folder.put_packed(what, data) for what, data in (("module", code), ("index", index.data))}
@@ -131,9 +130,10 @@ def page_of(title: str, table: str, folder: Folder) -> bytes:
 def make(options: argparse.Namespace) -> Made:
     """Makes the site that the words of the command ask for."""
     folder = Folder(options.folder)
-    code = module()
+    # Where one of these can't be had, nothing is written.
+    code, index = module(), compacted(options.index)
     folder.begin()
-    table, made = put_data(folder, options, code)
+    table, made = put_data(folder, options, code, index)
     folder.finish(page_of(options.title, table, folder))
     return made
 
