@@ -16,12 +16,7 @@ const REPLIES: &[u8] = b"added 1\nfound 1\n! unknown command\n";
 // The bytes of an index without documents.
 fn empty_index(rt: &impl Abort, alloc: Global) -> Result<Vec<u8>, Fail> {
     let mut disk = MemoryDisk::new(alloc, Vec::new(alloc), 1 << 40, Vec::new(alloc));
-    let mut console = MemoryConsole::new(
-        alloc,
-        Vec::new(alloc),
-        Vec::new(alloc),
-        Vec::new(alloc),
-    );
+    let mut console = MemoryConsole::new(alloc, Vec::new(alloc), Vec::new(alloc), Vec::new(alloc));
     let words = vec![in alloc; Text::of(alloc, "init")?]?;
     let status = alta(alloc, &words, &mut console, &mut disk);
     assert_eq!(rt; status, Status::Done);
