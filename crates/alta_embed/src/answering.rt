@@ -1,5 +1,5 @@
 // Lines answered on a copy of an index.
-ghost use Rattle.std.specs.Prelude.{◌≡◌, ◌≤◌, ℕ, [], length, take, drop, IfOk, OnErr, IfErr};
+ghost use Rattle.std.specs.Prelude.{◌≡◌, ◌≢◌, ◌≤◌, ℕ, [], length, take, drop, IfOk, OnErr, IfErr};
 ghost use Rattle.alta_console.specs.Memory.{transcript, input_left};
 ghost use Rattle.alta_console.specs.Transcript.{given_in};
 ghost use Rattle.alta_console.specs.declared.memory.MemoryConsole.{MemoryConsole};
@@ -40,6 +40,7 @@ fn console_of(alloc: Global, lines: &[u8]) -> Result<MemoryConsole, AllocError>
 // Answers the lines on a copy of the index: the console, which was given the replies.
 fn run(alloc: Global, index: &[u8], lines: &[u8]) -> Result<MemoryConsole, Refusal>
     ensures answers { Answers index.now lines.now (λ (console : MemoryConsole). given_in (transcript console)) result }
+    ensures roomy { IfErr result (λ refusal. (need : ℕ) → refusal ≢ Refusal.NoRoom need) }
 {
     let mut disk = disk_of(alloc, index)?;
     let mut console = console_of(alloc, lines)?;
