@@ -20,7 +20,7 @@ NATIVE_LAYOUT = "e-m:e-p270:32:32-p271:32:32-p272:64:64-i64:64-i128:128-f80:128-
 # The features that all browsers have had for years, by the name that LLVM gives them.
 PROCESSOR = "lime1"
 FEATURES = ("memory64", "bulk-memory", "mutable-globals", "sign-ext", "nontrapping-float-to-int", "multivalue")
-NATIVE = re.compile(r'"probe-stack"="inline-asm" "stack-probe-size"="[0-9]+" "target-cpu"="x86-64[a-z0-9-]*"')
+NATIVE = r'"probe-stack"="inline-asm" "stack-probe-size"="[0-9]+" "target-cpu"="x86-64[a-z0-9-]*"'
 ENTRY = "alta_embed_answer"
 HEAP = ("rattle_alloc", "rattle_dealloc", "rattle_realloc")
 SHUFFLE = "llvm.x86.ssse3.pshuf.b.128"

@@ -36,7 +36,7 @@ def released(name: str) -> str:
     In a checkout it is unpacked from the release, where that is of these very sources; else it is looked for where the program is
     installed. Raises `FileNotFoundError` where there is none.
     """
-    top = os.path.dirname(os.path.dirname(os.path.dirname(os.path.abspath(__file__))))
+    top = os.path.dirname(os.path.dirname(os.path.dirname(os.path.realpath(__file__))))
     script = os.path.join(top, "release", "embedded.py")
     if os.path.isdir(os.path.join(top, "crates")) and os.path.exists(script):
         done = subprocess.run([sys.executable, script, "--path", name], stdout=subprocess.PIPE, stderr=subprocess.PIPE, text=True)
