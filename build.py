@@ -58,7 +58,7 @@ def needs():
         for line in file:
             name, colon, words = line.partition(":")
             if colon and not name.startswith("#"):
-                listed[name] = words.split()
+                listed[name.split()[0]] = words.split()
     found, left = {}, [PROGRAM]
     while left:
         name = left.pop()

@@ -6,60 +6,17 @@ module, and linked it has to be the program, byte for byte.
 """
 
 import contextlib
-import importlib.util
-import os
-import subprocess
 import sys
 import tempfile
 
-TARGET = "x86_64-unknown-linux-gnu"
-CLANG = """#!{python}
-import os, subprocess, sys
+from compiling import TARGET, Fault, call, loaded, put_toolchain, read
 
-words = sys.argv[1:]
+CLANG = """
 if "-c" in words and "-o" in words:
     other = ["-S" if it == "-c" else it for it in words]
     other[other.index("-o") + 1] = {assembly!r}
-    subprocess.run([{clang!r}, *other], check=True)
-os.execv({clang!r}, [{clang!r}, *words])
+    subprocess.run([clang, *other], check=True)
 """
-
-
-class Fault(Exception):
-    """Why there is no assembly."""
-
-
-def loaded(path):
-    """The kit's own module of its command: it knows the words by which `rt run` calls the compiler."""
-    sys.dont_write_bytecode = True
-    spec = importlib.util.spec_from_file_location("rtlib", path)
-    module = importlib.util.module_from_spec(spec)
-    sys.modules["rtlib"] = module
-    spec.loader.exec_module(module)
-    return module
-
-
-def put_toolchain(folder, kit, assembly):
-    """A toolchain as the kit's, of which clang also writes the assembly."""
-    os.makedirs(f"{folder}/bin")
-    os.symlink(f"{kit}/toolchain/lib", f"{folder}/lib")
-    for name in os.listdir(f"{kit}/toolchain/bin"):
-        if name != "clang":
-            os.symlink(f"{kit}/toolchain/bin/{name}", f"{folder}/bin/{name}")
-    with open(f"{folder}/bin/clang", "w", encoding="utf-8") as file:
-        file.write(CLANG.format(python=sys.executable, clang=f"{kit}/toolchain/bin/clang", assembly=assembly))
-    os.chmod(f"{folder}/bin/clang", 0o755)
-
-
-def call(what, *words, **options):
-    done = subprocess.run(words, stdin=subprocess.DEVNULL, stdout=subprocess.PIPE, stderr=subprocess.STDOUT, text=True, errors="replace", **options)
-    if done.returncode:
-        raise Fault(f"{what} ended with status {done.returncode}: {done.stdout[-2000:]}")
-
-
-def read(path):
-    with open(path, "rb") as file:
-        return file.read()
 
 
 def of_program(top, name, kit, program):
@@ -67,7 +24,7 @@ def of_program(top, name, kit, program):
     rtlib = loaded(f"{kit}/bin/rtlib.py")
     crate = next(it for it in rtlib.crates_below(top) if it.name == name)
     with tempfile.TemporaryDirectory() as room:
-        put_toolchain(f"{room}/toolchain", kit, f"{room}/made.s")
+        put_toolchain(f"{room}/toolchain", kit, CLANG.format(assembly=f"{room}/made.s"))
         with contextlib.redirect_stdout(sys.stderr):
             words = crate.words(["--jobs", "2"])
         words += ["--toolchain", f"{room}/toolchain", "--backend", "llvm", *rtlib.KEPT, "-o", f"{room}/made.o"]

@@ -127,7 +127,7 @@ def of_kit():
     """The kit's crates that crates.txt names."""
     with open(os.path.join(TOP, "crates.txt"), encoding="utf-8") as file:
         lines = [line.partition("#")[0].partition(":") for line in file]
-    own = {name.strip() for name, _, _ in lines}
+    own = {name.split()[0] for name, _, _ in lines if name.strip()}
     return {word for _, _, words in lines for word in words.split()} - own
 
 

@@ -81,7 +81,7 @@ class Checkout(unittest.TestCase):
         self.path = os.path.join(folder.name, "x.alta")
         os.makedirs(os.path.join(self.top, "docs"))
         os.mkdir(os.path.join(self.top, "release"))
-        for file in ("alta", "build.py", "docs/alta.1", "release/assembly.py", "release/digest", "release/make.py"):
+        for file in ("alta", "build.py", "docs/alta.1", "release/assembly.py", "release/compiling.py", "release/digest", "release/make.py"):
             shutil.copy(os.path.join(TOP, file), os.path.join(self.top, file))
         self.put("HANDLES", "Handles allowed: none.\n")
         self.put("crates.txt", "alta_codec:\nalta_cli: alta_codec\n")

@@ -46,7 +46,7 @@ THEOREMS = re.compile(r"((?:`[\w:]+`(?: \(clause `\w+`\))?(?:, )?)+) (?:\(|in )`
 def stood_on(text):
     """The crates of crates.txt, in order, each with those on which it stands."""
     lines = [line.partition("#")[0].partition(":") for line in text.splitlines()]
-    return {name.strip(): below.split() for name, _, below in lines if name.strip()}
+    return {name.split()[0]: below.split() for name, _, below in lines if name.strip()}
 
 
 def order_faults(below, register):

@@ -1,0 +1,4 @@
+pub mod Replies
+pub mod Refusals
+pub mod Answers
+pub mod Returns
