@@ -1,5 +1,5 @@
 -- Laws of the replies to lines, whatever the disk stands for.
-use Rattle.std.proofs.Common.{◌≡◌, ℕ, ◌+◌, ◌<◌, ◌≤◌, inl, inr, zero, suc, List, [], ◌∷◌, ◌++◌, length, length-append, take, map, refl, ap, sym, subst, ◌∙◌, append-nil, append_assoc, arith}
+use Rattle.std.proofs.Common.{◌≡◌, ℕ, inl, inr, zero, suc, List, [], ◌∷◌, ◌++◌, length, length-append, take, map, refl, ap, sym, subst, ◌∙◌, append-nil, append_assoc, arith}
 use Rattle.std.proofs.lemmas.List.{take_all, take-append-le}
 use Rattle.std.specs.List.{concat}
 use Rattle.alta_console.specs.Giving.{AllGiven}
@@ -10,7 +10,7 @@ use Rattle.alta_console.proofs.ReplyLaws.{joined_append}
 use Rattle.alta_console.proofs.RunLaws.{given_takes_at, takes_in, takes_later}
 use Rattle.alta_machine.specs.Machine.{Machine, step, machine_after}
 use Rattle.alta_session.specs.Keeping.{clip}
-use Rattle.alta_session.specs.Replied.{AreInTime, AreRepliesTo, GivesReplies, IsAnswered}
+use Rattle.alta_session.specs.Replied.{AreInTime, AreRepliesTo, IsAnswered}
 use Rattle.alta_session.specs.Spending.{OnlyReads}
 use Rattle.alta_session.proofs.MachineLaws.{clip_first, rest_of, reply_some, step_same}
 use Rattle.alta_session.proofs.SpendingLaws.{clip_reads, of_clip}
