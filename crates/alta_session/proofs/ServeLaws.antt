@@ -8,6 +8,7 @@ use Rattle.alta_console.specs.Transcript.{given_in, lines_in}
 use Rattle.alta_console.specs.declared.event.Event.{Event}
 use Rattle.alta_console.proofs.Laws.{grows_none, consumes_none}
 use Rattle.alta_content.specs.declared.content.Content.{Content}
+use Rattle.alta_catalog.proofs.MayLaws.{may_be, means_may}
 use Rattle.alta_catalog.specs.Knowing.{newest_of}
 use Rattle.alta_disk.specs.Disk.{DiskState, Each, Same, Only, Passes, Stands, LeavesOnly, IsLawful}
 use Rattle.alta_disk.proofs.Moments.{leaves_then, leaves_by}
@@ -145,6 +146,14 @@ held_of s image stands = (
   record { is = record { opened = stands.opened; is = opened_of s image stands; are = stands.means.are; view_is = refl; list_is = refl }; none = refl },
   stands.means.state_is,
 )
+
+-- what an image that stands for a state may speak of
+pub stands_speaks : (s : State) (image : List ℕ) → StandsFor s image → MaySpeakOf s image
+stands_speaks s image stands = record { opened = stands.opened; is = opened_of s image stands; may = means_may s stands.opened image stands.means }
+
+-- and one that is opened
+pub opened_speaks : (o : Opened) (image : List ℕ) → IsOpened o image → (s : State) × MaySpeakOf s image
+opened_speaks o image is = let some = may_be o in (some.0, record { opened = o; is = is; may = some.1 })
 
 -- what an image keeps that holds what was answered, and no reply behind it
 pub holds_answered : (limit : ℕ) (start : Machine) (run : List Event) (image : List ℕ) → KeepsAnswered limit start run image → HoldsAnswered StandsFor start (lines_in limit run) (given_in run) image

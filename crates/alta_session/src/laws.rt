@@ -7,6 +7,7 @@ ghost use Rattle.alta_machine.specs.Dumps.{restored};
 ghost use Rattle.alta_dump.specs.Laws.{AnswersAlike};
 ghost use Rattle.alta_dump.specs.Names.{HasItsName};
 ghost use Rattle.alta_meaning.specs.Holding.{Holding};
+ghost use Rattle.alta_meaning.specs.Opened.{Opened, IsOpened};
 ghost use Rattle.alta_meaning.specs.Standing.{StandsFor};
 ghost use Rattle.alta_meaning.specs.Views.{state_of};
 ghost use Rattle.alta_machine.specs.States.{empty_state, IsState};
@@ -52,6 +53,13 @@ pub fn what_was_answered_is_kept_beside_damage<C: Console, D: Disk>()
     ensures changed { (console console_now : C) (disk disk_now : D) (limit : ℕ) (status : Status) (s : State) → Stands D.tells (D.state disk) (MaySpeakOf s)
         → (serves : Serves D.tells limit (C.told console) (C.told console_now) (C.left console) (C.left console_now) (D.state disk) (D.state disk_now) status) → All MayChange (lines_in limit serves.run)
         → Each (D.state disk_now).images (HoldsAnswered MaySpeakOf (started_at s) (lines_in limit serves.run) (given_in serves.run)) }
+{}
+
+/// Each image that is opened may speak of a state, whatever its lists are, and each that stands for a state may speak of it. The promise
+/// before speaks of such images.
+pub fn what_is_opened_may_speak()
+    ensures opened { (o : Opened) (image : List ℕ) → IsOpened o image → (s : State) × MaySpeakOf s image }
+    ensures stands { (s : State) (image : List ℕ) → StandsFor s image → MaySpeakOf s image }
 {}
 
 /// What an image that stands for a state has, as a run has it that begins there: levels, extents, deleted ends and entries, and no join
