@@ -1,5 +1,5 @@
 -- Laws of lines that were answered.
-use Rattle.std.proofs.Common.{◌≡◌, ℕ, ◌+◌, ◌<◌, ◌≤◌, List, [], ◌∷◌, ◌++◌, Option, length, length-append, drop, map, arith, refl, ap, sym, subst, ◌∙◌, append-nil, inl, Ok, Err}
+use Rattle.std.proofs.Common.{◌≡◌, ℕ, ◌+◌, ◌<◌, List, [], ◌∷◌, ◌++◌, Option, length, length-append, map, arith, refl, ap, sym, subst, ◌∙◌, append-nil, Ok, Err}
 use Rattle.alta_console.specs.Giving.{Gives}
 use Rattle.std.specs.List.{concat}
 use Rattle.alta_console.specs.declared.event.Event.{Event}
@@ -17,7 +17,6 @@ use Rattle.alta_session.specs.Fullness.{IsFullOnly}
 use Rattle.alta_session.specs.Keeping.{clip}
 use Rattle.alta_machine.specs.Machine.{Machine, step, machine_after, replies}
 use Rattle.alta_session.specs.Progress.{After, AfterSome, SpeaksAfterSome, SpeaksWithin, StandsAfterSome, Progress, StopsWithin, StopsWithinFrom}
-use Rattle.alta_session.specs.Replied.{AreRepliesTo, GivesReplies}
 use Rattle.alta_session.specs.Tasks.{IsBy, IsDone, IsOn, IsWorked, task_of, worked_lines, worked_where}
 use Rattle.alta_session.specs.Spending.{KeepsSettled, KeepsStore, OnlyReads, Spends}
 use Rattle.alta_session.specs.declared.session.Session.{Session}

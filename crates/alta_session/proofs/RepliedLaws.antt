@@ -1,17 +1,19 @@
 -- Laws of the replies to lines, whatever the disk stands for.
-use Rattle.std.proofs.Common.{◌≡◌, ℕ, ◌+◌, ◌<◌, ◌≤◌, inl, inr, zero, suc, List, [], ◌∷◌, ◌++◌, length, length-append, take, map, refl, ap, sym, subst, ◌∙◌, append-nil, append_assoc, arith}
+use Rattle.std.proofs.Common.{◌≡◌, ℕ, inl, inr, zero, suc, List, [], ◌∷◌, ◌++◌, length, length-append, take, drop, map, refl, ap, sym, subst, ◌∙◌, append-nil, append_assoc, arith}
 use Rattle.std.proofs.lemmas.List.{take_all, take-append-le}
-use Rattle.std.specs.List.{concat}
+use Rattle.std.proofs.lemmas.List.Elements.{All-head, All-tail}
+use Rattle.std.specs.List.{All, concat}
 use Rattle.alta_console.specs.Giving.{AllGiven}
 use Rattle.alta_console.specs.Lines.{whole}
 use Rattle.alta_console.specs.Transcript.{given_in, taken_in, TakesAt}
 use Rattle.alta_console.specs.declared.event.Event.{Event}
 use Rattle.alta_console.proofs.ReplyLaws.{joined_append}
 use Rattle.alta_console.proofs.RunLaws.{given_takes_at, takes_in, takes_later}
-use Rattle.alta_machine.specs.Machine.{Machine, step, machine_after}
+use Rattle.alta_console.specs.Replies.{IsPartOfFirst}
+use Rattle.alta_machine.specs.Machine.{Machine, step, machine_after, replies}
 use Rattle.alta_session.specs.Keeping.{clip}
-use Rattle.alta_session.specs.Replied.{AreInTime, AreRepliesTo, GivesReplies, IsAnswered}
-use Rattle.alta_session.specs.Spending.{OnlyReads}
+use Rattle.alta_session.specs.Replied.{AreInTime, AreRepliesTo, IsAnswered}
+use Rattle.alta_session.specs.Spending.{MayChange, OnlyReads}
 use Rattle.alta_session.proofs.MachineLaws.{clip_first, rest_of, reply_some, step_same}
 use Rattle.alta_session.proofs.SpendingLaws.{clip_reads, of_clip}
 
@@ -54,6 +56,15 @@ replies_alike m (x ∷ xs) (y ∷ ys) (t ∷ ts) part same are = (
   λ changes. are.0 (λ reads. changes (reads_same y x (sym (clip_first x y xs ys same)) reads)) ∙ ap (λ (p : Machine × List ℕ). p.1) (step_same m x y (clip_first x y xs ys same)),
   subst (λ (p : Machine × List ℕ). AreRepliesTo p.0 ys ts part) (step_same m x y (clip_first x y xs ys same)) (replies_alike (step m x).0 xs ys ts part (ap rest_of same) are.1),
 )
+
+-- of lines that may each change the index these are the machine's, and the part begins the next one
+pub replies_are : (m : Machine) (lines texts : List (List ℕ)) (part : List ℕ) → All MayChange lines → AreRepliesTo m lines texts part → (texts ≡ take (length texts) (replies m lines)) × IsPartOfFirst (drop (length texts) (replies m lines)) part
+replies_are m [] [] part all none = (refl, none)
+replies_are m [] (t ∷ ts) part all none = absurd none
+replies_are m (x ∷ xs) [] part all are = (refl, are (All-head MayChange x xs all))
+replies_are m (x ∷ xs) (t ∷ ts) part all are =
+    let rest = replies_are (step m x).0 xs ts part (All-tail MayChange x xs all) are.1 in
+    (ap (λ (l : List ℕ). l ∷ ts) (are.0 (All-head MayChange x xs all)) ∙ ap (λ (l : List (List ℕ)). (step m x).1 ∷ l) rest.0, rest.1)
 
 -- ---- what was given
 

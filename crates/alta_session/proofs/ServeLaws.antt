@@ -1,11 +1,14 @@
 -- Laws of runs that open what is on the disk.
-use Rattle.std.proofs.Common.{◌≡◌, ◌⊎◌, ◌+◌, ◌≤◌, ℕ, inl, inr, ⊎_elim, List, [], Option, None, length, refl, ap, sym, subst, ◌∙◌, arith}
-use Rattle.std.specs.List.{All}
+use Rattle.std.proofs.Common.{◌≡◌, ◌⊎◌, ◌+◌, ◌≤◌, ℕ, inl, inr, ⊎_elim, List, [], ◌++◌, Option, None, length, refl, ap, sym, subst, ◌∙◌, arith}
+use Rattle.std.specs.List.{All, concat}
 use Rattle.alta_layout.specs.declared.slot.Slot.{Slot}
+use Rattle.alta_console.specs.Replies.{IsAcked}
+use Rattle.alta_console.proofs.ReplyLaws.{acked_part}
 use Rattle.alta_console.specs.Transcript.{given_in, lines_in}
 use Rattle.alta_console.specs.declared.event.Event.{Event}
 use Rattle.alta_console.proofs.Laws.{grows_none, consumes_none}
 use Rattle.alta_content.specs.declared.content.Content.{Content}
+use Rattle.alta_catalog.proofs.MayLaws.{may_be, means_may}
 use Rattle.alta_catalog.specs.Knowing.{newest_of}
 use Rattle.alta_disk.specs.Disk.{DiskState, Each, Same, Only, Passes, Stands, LeavesOnly, IsLawful}
 use Rattle.alta_disk.proofs.Moments.{leaves_then, leaves_by}
@@ -15,12 +18,13 @@ use Rattle.alta_meaning.specs.Holding.{Holding, IsHeld, IsJobOf}
 use Rattle.alta_session.specs.Agreement.{AgreesOn}
 use Rattle.alta_session.specs.Fullness.{IsFullExactly}
 use Rattle.alta_session.specs.Kept.{HoldsAnswered}
-use Rattle.alta_machine.specs.Machine.{Machine, started_at}
+use Rattle.alta_machine.specs.Machine.{Machine, replies, started_at}
 use Rattle.alta_session.specs.Progress.{SpeaksAfter, SpeaksWithin, StandsAfterSome}
 use Rattle.alta_replies.specs.Loading.{newest_in}
 use Rattle.alta_session.specs.Replied.{GivesReplies}
 use Rattle.alta_session.specs.Run.{AnswersAll, KeepsAnswered, KeepsReplied, KeepsSince, NotOpened, Runs, RunsFrom, Serves, KeepsPrefix}
-use Rattle.alta_session.specs.Spending.{OnlyReads, Spends, lines_bytes, newest_of_opened, opening_bytes}
+use Rattle.alta_session.proofs.RepliedLaws.{replies_are}
+use Rattle.alta_session.specs.Spending.{MayChange, OnlyReads, Spends, lines_bytes, newest_of_opened, opening_bytes}
 use Rattle.alta_session.specs.Tasks.{IsBy, IsFirst, IsOn, IsWorked, worked_lines}
 use Rattle.alta_session.specs.declared.session.Session.{Session}
 use Rattle.alta_session.specs.declared.status.Status.{Status}
@@ -143,12 +147,20 @@ held_of s image stands = (
   stands.means.state_is,
 )
 
+-- what an image that stands for a state may speak of
+pub stands_speaks : (s : State) (image : List ℕ) → StandsFor s image → MaySpeakOf s image
+stands_speaks s image stands = record { opened = stands.opened; is = opened_of s image stands; may = means_may s stands.opened image stands.means }
+
+-- and one that is opened
+pub opened_speaks : (o : Opened) (image : List ℕ) → IsOpened o image → (s : State) × MaySpeakOf s image
+opened_speaks o image is = let some = may_be o in (some.0, record { opened = o; is = is; may = some.1 })
+
 -- what an image keeps that holds what was answered, and no reply behind it
-pub holds_answered : (limit : ℕ) (start : Machine) (run : List Event) (image : List ℕ) → KeepsAnswered limit start run image → HoldsAnswered start (lines_in limit run) (given_in run) image
+pub holds_answered : (limit : ℕ) (start : Machine) (run : List Event) (image : List ℕ) → KeepsAnswered limit start run image → HoldsAnswered StandsFor start (lines_in limit run) (given_in run) image
 holds_answered limit start run image keeps = record {
   reached = keeps.stands.reached;
   within = keeps.stands.within;
-  stands = keeps.stands.has;
+  has = keeps.stands.has;
   answered = λ n within begins.
       omega (arith, keeps.is_acked.greatest n (omega (arith, within, length_replies start (lines_in limit run))) begins, keeps.stands.least);
 }
@@ -164,6 +176,35 @@ holds_replied tells limit told told_now left left_now d e status s tell stands s
         let lines : lines_in limit serves.run ≡ [] = ap (lines_in limit) closed.none in
         let count : 0 ≡ length serves.replied.gives.texts = omega (arith, serves.replied.gives.within, ap length lines) in
         subst (λ (n : ℕ). SpeaksAfter n (started_at s) (lines_in limit serves.run) c) count (after_none MaySpeakOf (started_at s) (lines_in limit serves.run) c (same_stands (MaySpeakOf s) d e closed.same stands.images c here))
+
+-- and where each line may change the index, these lines are found by their replies
+pub holds_changes : (tells : Type 0) (limit : ℕ) (told told_now : Option (List Event)) (left left_now : Option (List ℕ)) (d e : DiskState) (status : Status) (s : State) → tells → Stands tells d (MaySpeakOf s) → (serves : Serves tells limit told told_now left left_now d e status)
+    → All MayChange (lines_in limit serves.run) → Each e.images (HoldsAnswered MaySpeakOf (started_at s) (lines_in limit serves.run) (given_in serves.run))
+holds_changes tells limit told told_now left left_now d e status s tell stands serves changes = ⊎_elim none some (serves.spoken s tell (stands.content tell))
+  where
+    none : NotOpened d e serves.run status → Each e.images (HoldsAnswered MaySpeakOf (started_at s) (lines_in limit serves.run) (given_in serves.run))
+    none closed c here = record {
+      reached = 0;
+      within = omega arith;
+      has = same_stands (MaySpeakOf s) d e closed.same stands.images c here;
+      answered = λ n within begins. omega (arith, within, ap length (ap (lines_in limit) closed.none));
+    }
+
+    some : KeepsReplied limit (started_at s) serves.run serves.replied.gives d e → Each e.images (HoldsAnswered MaySpeakOf (started_at s) (lines_in limit serves.run) (given_in serves.run))
+    some keeps c here =
+        let lines : List (List ℕ) = lines_in limit serves.run in
+        let gives : GivesReplies lines (given_in serves.run) = serves.replied.gives in
+        let are = replies_are (started_at s) lines gives.texts gives.part changes keeps.replies in
+        let long : length (replies (started_at s) lines) ≡ length lines = length_replies (started_at s) lines in
+        let acked : IsAcked (length gives.texts) (replies (started_at s) lines) (given_in serves.run) =
+        acked_part (length gives.texts) (replies (started_at s) lines) (given_in serves.run) gives.part (omega (arith, gives.within, long)) (gives.given_is ∙ ap (λ (l : List (List ℕ)). concat l ++ gives.part) are.0) are.1 in
+        let after = keeps.now c here in
+        record {
+          reached = after.reached;
+          within = after.within;
+          has = after.has;
+          answered = λ n within begins. omega (arith, acked.greatest n (omega (arith, within, long)) begins, after.least);
+        }
 
 -- by the levels and newest documents of what was opened
 spends_opened : (d e : DiskState) (session : Session) (m : Machine) (lines : List (List ℕ)) (o : Opened) → Keeps session.store o → Spends d e session m lines → All OnlyReads lines → e.taken ≤ d.taken + lines_bytes o.levels (newest_of_opened o) m lines

@@ -134,8 +134,8 @@ pub record Serves (tells : Type 0) (limit : ℕ) (told told_now : Option (List E
   pub damaged : (place : ℕ) → tells → status ≡ Damaged place → IsBrokenAt disk.content place ⊎ FirstFindsDamage disk_now.content (unanswered limit run status replied) place
   -- and a place is wanting where the work of that line finds none
   pub wanting : (need gap : ℕ) → tells → status ≡ Full need gap → FirstWantsPlace disk_now.limit disk_now.content (unanswered limit run status replied) need gap
-  -- Nothing is taken before a sync has made firm what the opening read, whatever was pending: once something was taken, nothing is pending
-  -- at the end of a run whose lines change nothing, also where a call failed.
+  -- Whatever was pending at the start, nothing is at the end of a run that took something and whose lines change nothing, also where a call
+  -- failed. So the opening syncs before the first take: a later sync might fail.
   pub firm : tells → run ≢ [] → All OnlyReads (lines_in limit run) → Only disk_now.content disk_now.images
   -- where the content may speak of a state, also where a list is broken
   pub spoken : (s : State) → tells → MaySpeakOf s disk.content → NotOpened disk disk_now run status ⊎ KeepsReplied limit (started_at s) run replied.gives disk disk_now

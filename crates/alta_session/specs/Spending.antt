@@ -42,6 +42,10 @@ ReadsIn (refuses fault) = Unit {0}
 unfoldable pub OnlyReads : List ℕ → Type 0
 OnlyReads line = ReadsIn (reading_of line)
 
+-- the line may change it
+abbrev pub MayChange : List ℕ → Type 0
+MayChange line = ¬ (OnlyReads line)
+
 -- the lists that a session loads for a line
 abbrev pub session_loads : Session → List ℕ → List Load
 session_loads session line = line_loads (levels_of session.store) (newest_in session.store) (length session.cursors) line

@@ -7,6 +7,7 @@ ghost use Rattle.alta_machine.specs.Dumps.{restored};
 ghost use Rattle.alta_dump.specs.Laws.{AnswersAlike};
 ghost use Rattle.alta_dump.specs.Names.{HasItsName};
 ghost use Rattle.alta_meaning.specs.Holding.{Holding};
+ghost use Rattle.alta_meaning.specs.Opened.{Opened, IsOpened};
 ghost use Rattle.alta_meaning.specs.Standing.{StandsFor};
 ghost use Rattle.alta_meaning.specs.Views.{state_of};
 ghost use Rattle.alta_machine.specs.States.{empty_state, IsState};
@@ -19,6 +20,7 @@ ghost use Rattle.alta_session.specs.Found.{AreFound};
 ghost use Rattle.alta_session.specs.Kept.{HoldsAnswered};
 ghost use Rattle.alta_session.specs.Progress.{SpeaksAfter};
 ghost use Rattle.alta_session.specs.Run.{Serves};
+ghost use Rattle.alta_session.specs.Spending.{MayChange};
 ghost use Rattle.alta_session.specs.Tasks.{IsFirst};
 ghost use Rattle.alta_session.specs.declared.status.Status.{Status};
 ghost use Rattle.alta_machine.specs.Machine.{Machine, machine_after, started_at, step};
@@ -37,16 +39,27 @@ use alta_store::{Store, a_search_sees_the_state};
 pub fn what_was_answered_is_kept<C: Console, D: Disk>()
     ensures { (console console_now : C) (disk disk_now : D) (limit : ℕ) (status : Status) (s : State) → Stands D.tells (D.state disk) (StandsFor s)
         → (serves : Serves D.tells limit (C.told console) (C.told console_now) (C.left console) (C.left console_now) (D.state disk) (D.state disk_now) status)
-        → Each (D.state disk_now).images (HoldsAnswered (started_at s) (lines_in limit serves.run) (given_in serves.run)) }
+        → Each (D.state disk_now).images (HoldsAnswered StandsFor (started_at s) (lines_in limit serves.run) (given_in serves.run)) }
 {}
 
 /// A damaged archive goes on being added to, and what was answered as stored is there. Where all that a stop may leave on the disk may speak of
 /// one state as a run begins, whatever lists are broken, each image that a stop may leave afterwards may speak of the documents after some of
-/// the lines taken, in order from the first: after each line whose reply was given whole, or after one line more.
+/// the lines taken, in order from the first: after each line whose reply was given whole, or after one line more. Where each of the lines may
+/// change the index, as an add or a delete, these are the lines whose replies begin what was given.
 pub fn what_was_answered_is_kept_beside_damage<C: Console, D: Disk>()
-    ensures { (console console_now : C) (disk disk_now : D) (limit : ℕ) (status : Status) (s : State) → Stands D.tells (D.state disk) (MaySpeakOf s)
+    ensures replied { (console console_now : C) (disk disk_now : D) (limit : ℕ) (status : Status) (s : State) → Stands D.tells (D.state disk) (MaySpeakOf s)
         → (serves : Serves D.tells limit (C.told console) (C.told console_now) (C.left console) (C.left console_now) (D.state disk) (D.state disk_now) status)
         → Each (D.state disk_now).images (SpeaksAfter (length serves.replied.gives.texts) (started_at s) (lines_in limit serves.run)) }
+    ensures changed { (console console_now : C) (disk disk_now : D) (limit : ℕ) (status : Status) (s : State) → Stands D.tells (D.state disk) (MaySpeakOf s)
+        → (serves : Serves D.tells limit (C.told console) (C.told console_now) (C.left console) (C.left console_now) (D.state disk) (D.state disk_now) status) → All MayChange (lines_in limit serves.run)
+        → Each (D.state disk_now).images (HoldsAnswered MaySpeakOf (started_at s) (lines_in limit serves.run) (given_in serves.run)) }
+{}
+
+/// Each image that is opened may speak of a state, whatever its lists are, and each that stands for a state may speak of it. The promise
+/// before speaks of such images.
+pub fn what_is_opened_may_speak()
+    ensures opened { (o : Opened) (image : List ℕ) → IsOpened o image → (s : State) × MaySpeakOf s image }
+    ensures stands { (s : State) (image : List ℕ) → StandsFor s image → MaySpeakOf s image }
 {}
 
 /// What an image that stands for a state has, as a run has it that begins there: levels, extents, deleted ends and entries, and no join

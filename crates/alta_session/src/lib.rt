@@ -11,7 +11,8 @@ mod top;
 
 pub use laws::{
     a_line_keeps_a_state, a_search_answers_what_matches, the_lines_of_a_dump_restore,
-    what_stands_is_held, what_was_answered_is_kept, what_was_answered_is_kept_beside_damage,
+    what_is_opened_may_speak, what_stands_is_held, what_was_answered_is_kept,
+    what_was_answered_is_kept_beside_damage,
 };
 pub use serving::serve;
 pub use session::Session;

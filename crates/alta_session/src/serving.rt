@@ -241,7 +241,9 @@ fn answer_lines<C: Console, D: Disk>(
 ///
 /// Each line is answered before the next piece is taken, with the reply of the abstract machine. However the run
 /// ends, what the disk may then hold stands for the state after a prefix of the lines that holds each line whose
-/// reply was given whole, and at most one more; and so it did at each moment, for some prefix.
+/// reply was given whole, and at most one more; and so it did at each moment, for some prefix. Where the index opens and
+/// stands for no state, since a list is broken, it may speak of the documents after such a prefix: it has their names, numbers
+/// and lengths.
 ///
 /// It ends with `Done` where the input was read to its end and every reply was given, `TooLong` where more bytes were
 /// taken than the limit, `DiskFault`, `TakeFault` or `GiveFault` where such a call failed, `Memory` where there was no
