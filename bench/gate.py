@@ -8,7 +8,7 @@ usage: rt ci 2>&1 | bench/gate.py [--to FILE] [--every SECONDS] [--record FILE]
 Hands the lines on as they come, and writes them to FILE with the seconds of the clock before each, which --read takes. While they
 come it looks at the processes of whoever writes them, as often as said: the processor time of a check is what its process and
 those that it has started were last seen with, and by the clock it lasts from its start until it is seen no more. With --log the
-lines are those of a growing file, up to the gate's last one, and the process that writes them is named by --pid.
+lines are those of a growing file, up to the gate's last one or until the process that writes them, which --pid names, is no more.
 
 Prints at the end a line for each crate, the dearest first: processor seconds and minutes by the clock of its proof, its tests and
 its edits, with the minute at which proof and tests stood, and how many edits there are; then the sums, and how long all took. Where the
@@ -200,12 +200,13 @@ def lines_of(file, look):
         yield rest.decode(errors="replace")
 
 
-def lines_that_grow(path, look):
-    """The lines of a file that another process writes, up to the gate's last one."""
+def lines_that_grow(path, look, pid):
+    """The lines of a file that another process writes, up to the gate's last one, or until that process is no more."""
     rest = ""
     with open(path, encoding="utf-8", errors="replace") as file:
         while True:
             look()
+            is_over = pid is not None and not os.path.exists(f"/proc/{pid}")
             part = file.readline()
             rest += part
             if rest.endswith("\n"):
@@ -213,6 +214,8 @@ def lines_that_grow(path, look):
                 if LAST.fullmatch(rest):
                     return
                 rest = ""
+            elif not part and is_over:
+                return
             elif not part:
                 time.sleep(0.2)
 
@@ -271,7 +274,7 @@ def read_all(options):
     said, seen = Said(), Seen(options.every)
     roots = {options.pid} if options.pid else set() if options.log else writers_of(0)
     look = lambda: seen.look(roots)
-    lines = lines_that_grow(options.log, look) if options.log else lines_of(0, look)
+    lines = lines_that_grow(options.log, look, options.pid) if options.log else lines_of(0, look)
     to = open(options.to, "w", encoding="utf-8") if options.to else None
     for number in (signal.SIGINT, signal.SIGTERM):
         signal.signal(number, signal.default_int_handler)

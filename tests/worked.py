@@ -194,7 +194,7 @@ def many(index):
         found, first, left = want.split(" ")
         page = [f"{first} d{first}"] if first != "0" else []
         replies = all_.run(f"count {query}", f"open {query}", "fetch 1 1")
-        compare(row, replies, [f"found {found}", "cursor 1", *page, "more" if left == "more" else "end"])
+        compare(row, replies, [f"found {found}", "cursor 1", *page, {"more": "more", "all": "end"}[left]])
 
 
 # Queries over two levels and a newest document, `a`, `b` and `c`, the second being deleted, and the names of the documents that answer.
