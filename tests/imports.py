@@ -166,6 +166,57 @@ class Folders(Case):
         self.assertEqual(sorted(os.listdir(self.place.name)), ["notes", "x.alta", "x.alta.stamps"])
         self.assertIn("0 added, 5 unchanged", self.run_script("folder", self.path, notes))
 
+    def rights(self, *names):
+        return [os.stat(self.at(name)).st_mode & 0o777 for name in names]
+
+    def test_no_wider_rights_than_the_source(self):
+        """Whoever may not read what was brought in may not read the index, nor the stamps."""
+        box = self.write("box", "From x\nSubject: secret\n\nthe text\n")
+        self.addCleanup(os.umask, os.umask(0o022))
+        for rights, given in ((0o600, 0o600), (0o640, 0o640), (0o644, 0o644), (0o400, 0o600), (0o666, 0o644)):
+            with self.subTest(rights=oct(rights)):
+                os.chmod(box, rights)
+                self.assertIn("1 added", self.run_script("mail", self.path, box))
+                self.assertEqual(self.rights("x.alta", "x.alta.stamps"), [given, given])
+                for name in ("x.alta", "x.alta.stamps"):
+                    os.remove(self.at(name))
+
+    def test_no_wider_rights_than_the_folder(self):
+        notes = self.notes(2)
+        os.chmod(notes, 0o700)
+        self.addCleanup(os.umask, os.umask(0o022))
+        self.run_script("folder", self.path, notes)
+        self.assertEqual(self.rights("x.alta", "x.alta.stamps"), [0o600, 0o600])
+
+    def test_stamps_have_no_wider_rights_than_the_index(self):
+        notes = self.notes(2)
+        self.addCleanup(os.umask, os.umask(0o022))
+        self.run_script("folder", self.path, notes)
+        self.assertEqual(self.rights("x.alta", "x.alta.stamps"), [0o644, 0o644])
+        os.chmod(self.path, 0o600)
+        os.remove(self.path + ".stamps")
+        self.run_script("folder", self.path, notes)
+        self.assertEqual(self.rights("x.alta.stamps"), [0o600])
+
+    def test_stamps_that_are_written_anew_keep_their_rights(self):
+        notes = self.notes(3)
+        self.run_script("folder", self.path, notes)
+        self.write("x.alta.stamps", self.older_stamps())
+        os.chmod(self.path + ".stamps", 0o600)
+        self.addCleanup(os.umask, os.umask(0o022))
+        seen = []
+        opened = stamps.sqlite3.connect
+
+        def connect(path, **words):
+            base = opened(path, **words)
+            if str(path).endswith(".new"):
+                seen.extend(self.rights(path))
+            return base
+
+        with mock.patch.object(stamps.sqlite3, "connect", connect):
+            stamps.Stamps(self.path + ".stamps").close()
+        self.assertEqual((seen, self.rights("x.alta.stamps")), ([0o600], [0o600]))
+
     def test_stamps_that_are_damaged(self):
         notes = self.notes(5)
         self.run_script("folder", self.path, notes)
@@ -1320,6 +1371,13 @@ class RealProgram(Case):
         until(lambda: os.path.exists(stamps) and os.path.getsize(stamps) > 5_000 or process.poll() is not None)
         process.kill()
         process.communicate()
+
+    def test_no_wider_rights_than_the_source_by_way_of_memory(self):
+        box = self.mailbox(1, 1)
+        os.chmod(box, 0o600)
+        self.addCleanup(os.umask, os.umask(0o022))
+        self.assertIn("1 added", self.run_script("mail", "--fast", self.path, box))
+        self.assertEqual([os.stat(path).st_mode & 0o777 for path in (self.path, self.path + ".stamps")], [0o600, 0o600])
 
     def test_killed_and_brought_in_again(self):
         path = self.mailbox(1000, 20)

@@ -4,8 +4,8 @@
 usage: tests/upkeep.py [--program PATH] [--rounds N] [--seed N]
 
 Each round spells an index with levels, deleted documents and free room between them. Its copy has to have the same root with its
-extents one behind the other, by the reading of tests/model/reading.py, the same half of the journal, and no byte more; the program
-answers the same lines over both, through a merge and a new start. What breaks a rule on the root, is locked, or would write
+extents one behind the other, by the reading of tests/model/reading.py, the same records of the journal, and no byte more; the program
+answers the same lines over both, through a merge and a new start. A copy without what is deleted has no byte of it. What breaks a rule on the root, is locked, or would write
 over a file is refused, and nothing is written. Then bytes are broken: the check finds what the program finds, and changes nothing.
 Ends with status 0 where all of that holds.
 """
@@ -92,22 +92,39 @@ def same_index(old, new):
             expect(old[extent.place :][: extent.length] == new[place:][: extent.length], "an extent has other bytes")
             place += extent.length
     expect(len(new) == place, f"the copy has {len(new)} bytes in place of {place}")
-    half = reading.HALVES[slot]
-    expect(old[half : half + reading.HALF] == new[half : half + reading.HALF], "the journal has other bytes")
-    expect(new[reading.SLOTS[1 - slot]] != reading.OPEN, "the other slot is open")
+    half, other = reading.HALVES[slot], reading.HALVES[1 - slot]
+    tail = reading.opened(old).tail
+    expect(old[half:tail] == new[half:tail], "the journal has other bytes")
+    expect(not any(new[tail : half + reading.HALF]), "something stands behind the journal")
+    expect(not any(new[other : other + reading.HALF]), "something stands in the other half")
+    expect(not any(new[reading.SLOTS[1 - slot] :][: reading.SLOT]), "something stands in the other slot")
+
+
+def is_going(entry):
+    """Whether a document is deleted or replaced by an entry of a journal."""
+    return not isinstance(entry, reading.Add)
 
 
 def copies(scripts, chance):
-    """An index that is spelled, its copy, and the same replies over both."""
+    """An index that is spelled, its copies, and the same replies over all."""
     changes = made(chance, 40)
     content, _, _ = split(chance, changes, chance.randrange(20, len(changes) + 1))
     old, new = put(scripts.at("old.alta"), content), scripts.at("new.alta")
     put(scripts.at("old.alta.stamps"), b"some stamps\n")
-    status, said = scripts.run("compact", old, new)
+    os.chmod(old + ".stamps", 0o600)
+    status, said = scripts.run("compact", "--keep-deleted", old, new)
     expect(status == 0, f"compact ended with {status}: {said}")
+    expect(os.stat(new + ".stamps").st_mode & 0o777 == 0o600, "the stamps have other rights")
     expect(contents(old) == content, "the index was changed")
     expect(contents(new + ".stamps") == b"some stamps\n", "the stamps were not copied")
     same_index(content, contents(new))
+    living = scripts.at("living.alta")
+    expect(scripts.run("compact", old, living)[0] == 0, "it was not copied without what is deleted")
+    root = reading.read_roots(contents(living))[1]
+    expect(not root.deletions.length and not any(map(is_going, reading.opened(contents(living)).entries)), "something deleted is left")
+    expect(answered(scripts.program, old, asking(8)) == answered(scripts.program, living, asking(8)), "without what is deleted")
+    os.remove(living)
+    os.remove(living + ".stamps")
     for lines in (asking(7), ["add new\tred\tfox", "step 5", *asking(5)], ["merge", *asking(3)], asking(9)):
         over_old, over_new = (answered(scripts.program, path, lines) for path in (old, new))
         expect(over_old == over_new, "the copy answers something else")
@@ -126,12 +143,39 @@ def program_made(scripts):
     subprocess.run([scripts.program, path, "init"], check=True)
     lines = [line for i in range(20) for line in (f"add d{i}\tt\tred fox {'brown ' * (i * 50)}", "flush")]
     answered(scripts.program, path, [*lines, "delete d3", "delete d17", "merge", "delete d5", "add last\t\tfox"])
-    expect(scripts.run("compact", path, new)[0] == 0, "it was not copied")
+    expect(scripts.run("compact", "--keep-deleted", path, new)[0] == 0, "it was not copied")
     same_index(contents(path), contents(new))
     expect(os.path.getsize(new) < os.path.getsize(path), "the copy is not smaller")
     expect(answered(scripts.program, path, asking(9)) == answered(scripts.program, new, asking(9)), "made")
     os.remove(new)
     os.remove(path)
+
+
+def forgotten(scripts):
+    """Wherever what was deleted is left in an index, its copy has nothing of it, and all that stands."""
+    path, new = scripts.at("known.alta"), scripts.at("forgotten.alta")
+    told = "add secret\tPassphrase\tthe word is xylophonic"
+    stays = ["add a\tRed Fox\tthe quick red fox", "add b\t\tbrown dog"]
+    for lines in (
+        [told, *stays, "delete secret"],
+        [told, "delete secret", *stays, "flush"],
+        [*stays, told, "flush", "delete secret"],
+        [*stays, told, "flush", "delete secret", "flush"],
+        [told, "flush", "delete secret", *stays, "merge"],
+        [told, *stays, "flush", "merge", "delete secret", "merge", "add c\t\tx", "flush"],
+        [told, *stays, "add secret\t\tanother", "delete secret"],
+        [told, "flush", *stays, "add secret\t\tanother"],
+        [told, *stays, "add secret\t\tanother"],
+    ):
+        subprocess.run([scripts.program, path, "init"], check=True)
+        answered(scripts.program, path, lines)
+        expect(b"xylophonic" in contents(path), f"nothing is left behind {lines}")
+        status, said = scripts.run("compact", path, new)
+        expect(status == 0, f"compact ended with {status}: {said}")
+        expect(b"xylophonic" not in contents(new).lower() and b"passphrase" not in contents(new).lower(), f"something is left behind {lines}")
+        expect(answered(scripts.program, path, asking(9)) == answered(scripts.program, new, asking(9)), f"forgotten behind {lines}")
+        for name in (path, new):
+            os.remove(name)
 
 
 def refusals(scripts, chance):
@@ -187,7 +231,7 @@ def killed(scripts, chance):
     content, _, _ = split(chance, changes, len(changes))
     put(old, content)
     for _ in range(10):
-        process = scripts.start("compact", old, new)
+        process = scripts.start("compact", "--keep-deleted", old, new)
         time.sleep(chance.uniform(0, 0.3))
         process.send_signal(signal.SIGKILL)
         process.communicate()
@@ -321,6 +365,7 @@ def main():
         for _ in range(options.rounds):
             copies(scripts, chance)
         program_made(scripts)
+        forgotten(scripts)
         refusals(scripts, chance)
         killed(scripts, chance)
         checks(scripts)

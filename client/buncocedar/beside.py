@@ -13,12 +13,14 @@ from __future__ import annotations
 
 import contextlib
 import fcntl
+import functools
+import operator
 import os
 import re
 import shutil
 import stat
 import tempfile
-from typing import Iterator, List
+from typing import Iterable, Iterator, List
 
 PREFIX = ".making-"
 MADE = "index.alta"  # the file that is made; what stands beside it has its name and an ending
@@ -39,6 +41,33 @@ def give_rights(path: str, like: os.stat_result) -> None:
         # Here the file's group is among the others, and another group has nothing to look for.
         rights &= 0o600 | rights >> 3 & 0o006
     os.chmod(path, 0o600 | rights)
+
+
+@contextlib.contextmanager
+def no_wider_than(paths: Iterable[str]) -> Iterator[None]:
+    """Makes what this process makes meanwhile for nobody whom one of these files or folders shuts out; those that are missing count for nothing.
+
+    It is the process's own mask of rights, so what other threads make meanwhile gets no wider rights either.
+    """
+    before = os.umask(0o077)
+    try:
+        os.umask(before | functools.reduce(operator.or_, map(_shut_out, paths), 0))
+        yield
+    finally:
+        os.umask(before)
+
+
+def _shut_out(path):
+    """The rights to a file that its group and others do not have."""
+    try:
+        found = os.stat(path)
+    except OSError:
+        return 0
+    rights = stat.S_IMODE(found.st_mode)
+    if found.st_gid != os.getegid():
+        # What is made has another group, which is among the others there.
+        rights &= ~0o060 | rights << 3
+    return ~rights & 0o066
 
 
 def lock(handle: int) -> bool:

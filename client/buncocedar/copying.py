@@ -1,7 +1,8 @@
 """A copy of an index without its holes, while nothing else uses it, or between two lines of its server."""
 
 # A copy is a new file, and none is ever put in the place of the old one: who waits for the lock of the old file would get
-# that of a file without a name. Its other root slot and the other half of the journal are zeros.
+# that of a file without a name. Its other root slot and the other half of the journal are zeros, and so is its own half behind the
+# last record, where older lines may stand.
 
 import contextlib
 import fcntl
@@ -14,7 +15,7 @@ import time
 from typing import List, NamedTuple
 
 from .beside import making
-from .fileformat import HALF, HEAD, SLOT, Unusable, read_root
+from .fileformat import HALF, HEAD, SLOT, Unusable, read_journal, read_root
 from .imports.stamps import JOURNAL, Records, stamps_path
 from .links import connected
 
@@ -63,12 +64,11 @@ def packed(slot, root):
 
 
 def write_packed(source, root, target):
-    """Writes the index again: the slot that counts, its half, and what it names, without holes. All else is zeros."""
-    half = 2 * SLOT + root.slot * HALF
+    """Writes the index again: the slot that counts, its records, and what it names, without holes. All else is zeros."""
     target.seek(root.slot * SLOT)
     target.write(packed(os.pread(source.fileno(), SLOT, root.slot * SLOT), root))
-    target.seek(half)
-    copy_range(source, half, HALF, target)
+    target.seek(2 * SLOT + root.slot * HALF)
+    target.write(read_journal(source, root).records)
     target.seek(HEAD)
     for extent in root.extents():
         copy_range(source, extent.place, extent.length, target)
@@ -141,7 +141,7 @@ def put_copy(source, old, new):
 def put_written(write, old, new, mode):
     """Makes a file by this call, which writes an index into an open one, with these rights: as `put_copy` does."""
     with making(os.path.dirname(os.path.abspath(new))) as fresh:
-        with open(fresh, "wb") as target:
+        with open(fresh, "w+b") as target:
             write(target)
             os.fchmod(target.fileno(), mode & 0o777)
             os.fsync(target.fileno())
@@ -155,15 +155,16 @@ def put_written(write, old, new, mode):
 
 
 def copy_stamps(old, new):
-    """Copies a file of stamps to the disk, and tells whether there is one."""
-    if os.path.exists(old + JOURNAL):
-        # An import was stopped while it wrote rows: the file alone is half of what counts.
-        Records(old).copy(new)
-        return True
+    """Copies a file of stamps to the disk, with its rights, and tells whether there is one."""
     try:
         with open(old, "rb") as source, open(new, "wb") as target:
-            shutil.copyfileobj(source, target, CHUNK)
-            target.flush()
+            if os.path.exists(old + JOURNAL):
+                # An import was stopped while it wrote rows: the file alone is half of what counts.
+                Records(old).copy(new)
+            else:
+                shutil.copyfileobj(source, target, CHUNK)
+                target.flush()
+            os.fchmod(target.fileno(), os.fstat(source.fileno()).st_mode & 0o777)
             os.fsync(target.fileno())
     except FileNotFoundError:
         return False

@@ -11,6 +11,7 @@ VERSIONS = (1, 2)
 LEVELS = 16
 NUMBERS = 2**32
 CELLS = 262_146  # of a document, at most
+DELETE, REPLACE = 2, 3  # how the payload of a record begins by which a document goes
 
 
 class Unusable(Exception):
@@ -36,6 +37,13 @@ class Root(NamedTuple):
 
     def extents(self):
         return [self.deletions, *self.levels]
+
+
+class Journal(NamedTuple):
+    """What a half of the journal has of a root: the bytes of its records, and the numbers of the documents that these delete or replace."""
+
+    records: bytes
+    gone: list
 
 
 def rule(kept, place):
@@ -89,6 +97,21 @@ def read_root(file):
     ahead = (roots[1].sequence - roots[0].sequence) % 256
     rule(ahead in (1, 255), SLOT + 2)
     return roots[ahead == 1]
+
+
+def read_journal(file, root):
+    """The journal of a root. Behind its last record stands a closed gate, and what was written there before. Of a half in which a record
+    is broken it is all."""
+    half = os.pread(file.fileno(), HALF, 2 * SLOT + root.slot * HALF)
+    end, gone = 0, []
+    while half[end] == OPEN:
+        begin, length = end + 5, field(half, end + 1, 4)
+        if begin + length >= HALF:
+            return Journal(half, gone)
+        if length and half[begin] in (DELETE, REPLACE):
+            gone.append(field(half, begin + 1))
+        end = begin + length
+    return Journal(half[:end], gone)
 
 
 def level_count(file):

@@ -11,7 +11,7 @@ import signal
 import sys
 import tempfile
 
-from ..beside import PREFIX, making, remove_left
+from ..beside import PREFIX, making, no_wider_than, remove_left
 from ..copying import put_copy
 from ..document import NoText
 from ..errors import Error
@@ -23,7 +23,7 @@ from .interrupts import Interrupts
 from .log import Log, several
 from .making import Makers
 from .parts import parts_of
-from .stamps import Known, Stamps, name_of, numbered, stamps_path
+from .stamps import Known, Place, Stamps, below, name_of, numbered, stamps_path
 
 MEMORY = "/dev/shm"
 BESIDE = "buncocedar-"  # how the name of a folder in memory begins, in which an index is made
@@ -44,7 +44,10 @@ def bring(tool, path, source, documents, options=Options(), fast=False):
 
 
 def bring_all(tool, path, sources, options=Options(), fast=False):
-    """Brings the documents of several sources into the index at the path, one source behind the other, as `bring` does of one."""
+    """Brings the documents of several sources into the index at the path, one source behind the other, as `bring` does of one.
+
+    An index and stamps that are made get no wider rights than each source has.
+    """
     log = Log(tool)
     try:
         if path == "-":
@@ -52,7 +55,8 @@ def bring_all(tool, path, sources, options=Options(), fast=False):
         if fast and (is_address(path) or os.path.islink(path) or os.path.exists(path) and os.path.getsize(path)):
             log.say(f"{path} is there already, so it is added to where it stands")
             fast = False
-        return (bring_beside if fast else bring_into)(log, path, sources, options)
+        with no_wider_than(below(source.path, Place(options.file)) for source, _ in sources):
+            return (bring_beside if fast else bring_into)(log, path, sources, options)
     except (Error, OSError, Unusable) as error:
         log.say(f"stopped: {error}" if path == "-" else error if str(error).startswith(path) else f"{path}: {error}")
         return STOPPED
@@ -80,7 +84,8 @@ def bring_into(log, path, sources, options):
             index.merges = options.merge
             options = options._replace(merge=False)
         # Behind a server several may have the index: one import at a time gives names, and writes stamps.
-        stamps = Stamps(stamps_path(path), options.wait, lambda why: log.say(f"{path}: {why}, and is waited for"))
+        with no_wider_than([path]):
+            stamps = Stamps(stamps_path(path), options.wait, lambda why: log.say(f"{path}: {why}, and is waited for"))
         stack.callback(stamps.close)
         interrupts = stack.enter_context(Interrupts(index))
         for number, (source, documents) in enumerate(sources, 1):

@@ -45,7 +45,7 @@ import time
 from typing import NamedTuple, Optional
 from urllib.parse import quote, unquote_to_bytes
 
-from ..beside import is_at, lock
+from ..beside import give_rights, is_at, lock
 from ..errors import InUse
 
 NAME_LIMIT = 64
@@ -383,10 +383,10 @@ class Stamps(Records):
         fresh = f"{path}.new"
         with contextlib.suppress(FileNotFoundError):
             os.remove(fresh)
+        make_alike(fresh, os.fstat(self.file))
         with contextlib.closing(super()._opened(path)) as lines, contextlib.closing(sqlite3.connect(fresh)) as base:
             lines.backup(base)
         before, self.file = self.file, locked_file(fresh)
-        os.chmod(fresh, os.fstat(before).st_mode & 0o777)
         os.replace(fresh, path)
         os.close(before)
 
@@ -504,6 +504,12 @@ def locked_file(path, patience=0.0, on_wait=lambda why: None):
             is_said = True
             on_wait(why)
         time.sleep(0.05)
+
+
+def make_alike(path, like):
+    """Makes an empty file with the rights of another one, before anything is in it."""
+    os.close(os.open(path, os.O_WRONLY | os.O_CREAT | os.O_EXCL, 0o600))
+    give_rights(path, like)
 
 
 def stamps_path(index):
