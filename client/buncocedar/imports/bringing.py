@@ -16,8 +16,9 @@ from ..copying import put_copy
 from ..document import NoText
 from ..errors import Error
 from ..fileformat import LEVELS, Unusable
+from ..index import Index
 from ..lines import add_line
-from ..shards import ShardedIndex, is_address, open_index
+from ..shards import is_address, open_index
 from .engine import Import, Options
 from .interrupts import Interrupts
 from .log import Log, several
@@ -79,7 +80,7 @@ def bring_into(log, path, sources, options):
         makers = Makers(1 if options.may_pause else options.jobs)
         stack.callback(makers.close)
         index = stack.enter_context(open_index(path, create=True, patience=options.wait, on_wait=log.say))
-        if isinstance(index, ShardedIndex):
+        if not isinstance(index, Index):
             # The shards fill one by one, and each has its levels joined when it has taken much.
             index.merges = options.merge
             options = options._replace(merge=False)

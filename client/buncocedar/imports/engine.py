@@ -27,8 +27,9 @@ from typing import NamedTuple, Optional
 
 from ..document import TEXT_LIMIT, NoText
 from ..errors import Error, Refused
-from ..shards import NotAnswered, ShardedIndex
 from ..fileformat import HALF, LEVELS, Unusable, level_count
+from ..index import Index
+from ..shards.errors import NotAnswered
 from .log import several
 from .making import Job, Makers
 from .naming import GONE, Naming, stands
@@ -132,7 +133,7 @@ class Import:
         self.repeated = set()  # places of documents that stand elsewhere, too
         self.summary = Summary(log, options.verbose, options.prune)
         self.sent = deque()
-        self.is_proposed = isinstance(index, ShardedIndex)  # or is one already
+        self.is_proposed = not isinstance(index, Index)  # or is one already
         self.levels = Levels(levels_of(index.path) + bool(self.live))
         self.look_for_losses()
 

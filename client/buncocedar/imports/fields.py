@@ -6,6 +6,7 @@
 #
 # A thread is what its first message is called: the first of References, else In-Reply-To, else the message's own id.
 
+import functools
 import re
 
 from .header import heading
@@ -14,6 +15,7 @@ from .stamps import digest
 APART = re.compile(r"[\s<>,;:\"()]+")
 IDS = re.compile(rb"<([^<>\s]+)>")
 FIELD_LIMIT = 65_536  # bytes of a field that are looked at for addresses
+KEPT_LENGTH = 256  # bytes of a field whose words are kept
 DOMAIN_LIMIT = 255  # characters that a domain has at most (RFC 1035, section 2.3.4)
 ADDRESSES = {"from": b"from", "to": b"to", "cc": b"cc", "bcc": b"bcc"}
 LISTS = (b"list-id", b"list-post", b"x-mailing-list", b"mailing-list", b"x-beenthere")
@@ -35,6 +37,16 @@ def address_words(text):
         yield token
         yield from words_of(front)
         yield from domains(domain)
+
+
+def words_in(data):
+    """The words of an address field: of the short ones, which come again and again, the last are kept."""
+    return known_words(data) if len(data) <= KEPT_LENGTH else address_words(heading(data))
+
+
+@functools.lru_cache(4_096)
+def known_words(data):
+    return tuple(address_words(heading(data)))
 
 
 def domains(domain):
@@ -78,7 +90,7 @@ def fields_of(header, own, parts):
     """
     words = []
     for field, name in ADDRESSES.items():
-        words += [f"{field}:{word}" for data in header.values(name) for word in address_words(heading(data[:FIELD_LIMIT]))]
+        words += [f"{field}:{word}" for data in header.values(name) for word in words_in(data[:FIELD_LIMIT])]
     words += [f"list:{word}" for word in list_words(header)]
     words.append(f"thread:{thread_of(header, own)}")
     for name in filter(None, (part.file_name for part in parts)):
