@@ -240,7 +240,8 @@ def close_pair(pair):
 
 def answer_batches(request, reply):
     """Batches come by one pipe, and what is made of them goes into the other."""
-    with open(request, "rb") as requests, open(reply, "wb") as replies, contextlib.suppress(EOFError, BrokenPipeError):
+    # What was not taken is written as the pipe is closed, too.
+    with contextlib.suppress(EOFError, BrokenPipeError), open(request, "rb") as requests, open(reply, "wb") as replies:
         while True:
             pickle.dump(answered(pickle.load(requests)), replies, pickle.HIGHEST_PROTOCOL)
             replies.flush()
