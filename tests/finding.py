@@ -6,11 +6,13 @@ usage: tests/finding.py [--program PATH]
 Without --program the tests of the real program are left out, and that is said.
 """
 
+import contextlib
 import json
 import os
 import pty
 import random
 import signal
+import sqlite3
 import subprocess
 import sys
 import tempfile
@@ -201,6 +203,17 @@ class Orders(Case):
         self.assertEqual(self.names("quick", "--by-date", "--oldest"), ["old", "middle", "spring", "none"])
         self.assertEqual(self.names("quick", "--by-date", "--limit", "2"), ["spring", "middle"])
         self.assertIn("... and 3 more\nfound 4\n", self.find("quick", "--by-date", "--limit", "1"))
+        # The stamps have the dates, so no message is read; those of an older version had none.
+        os.rename(self.at("a.mbox"), self.at("b.mbox"))
+        self.assertEqual(self.names("quick", "--by-date"), ["spring", "middle", "old", "none"])
+        with contextlib.closing(sqlite3.connect(stamps_path(self.path))) as base:
+            base.execute("ALTER TABLE stamps DROP COLUMN moment")
+        self.assertEqual(self.names("quick", "--by-date"), self.names("quick"))
+        os.rename(self.at("b.mbox"), self.at("a.mbox"))
+        self.assertEqual(self.names("quick", "--by-date"), ["spring", "middle", "old", "none"])
+        self.write("a.mbox", MAIL.replace("Ann", "Zoe"))
+        self.run_bunco("mail", self.path, self.at("a.mbox"))
+        self.assertEqual(self.names("quick", "--by-date", "--limit", "1"), ["spring"])
 
     def test_the_newest_of_one_score_first(self):
         self.assertEqual(self.names("quick", "--top", "2"), ["middle", "none"])

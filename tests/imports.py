@@ -30,7 +30,7 @@ import unittest
 from unittest import mock
 
 # It lets the others find the client of the checkout.
-from support import BUNCO, PATIENCE, run_tests, until  # isort: skip
+from support import BUNCO, CLIENT, PATIENCE, run_tests, until  # isort: skip
 
 from buncocedar import LINE_LIMIT, Index, terminal
 from buncocedar.document import Document, NoText, Text, Unseen
@@ -625,6 +625,33 @@ class Folders(Case):
             makers.put(making.Job("a", lambda: Text("", "b"), False, False))
             self.assertEqual([result.parts for _, result in makers.ready(all_of_them=True)], [[("a", "", "b")]])
             makers.close()
+
+
+    def test_processes_end_with_the_import(self):
+        """Also where it is killed, and none of them waits for another one."""
+        begins = (
+            "import os, sys\nfrom buncocedar.document import Text\nfrom buncocedar.imports import making\nimport functools\n"
+            "making.SECONDS_ALONE = -1\nmakers = making.Makers(3)\n"
+            "for number in range(3 * making.BATCH):\n"
+            "    makers.put(making.Job(str(number), functools.partial(Text, 'a', 'b'), False, False))\n"
+            "print(makers.program.pid, len(makers.under_way), flush=True)\n"
+            "os.kill(os.getpid(), int(sys.argv[1])) if sys.argv[1] != '0' else makers.close()\n"
+        )
+        for number in (0, signal.SIGKILL):
+            words = [sys.executable, "-c", begins, str(int(number))]
+            done = subprocess.run(words, env={**os.environ, "PYTHONPATH": CLIENT}, capture_output=True, timeout=PATIENCE)
+            group, busy = map(int, done.stdout.split())
+            self.assertEqual((done.returncode, busy, done.stderr), (-number, 3, b""))
+            until(lambda: not is_there(group))
+
+
+def is_there(group):
+    """Whether a process of the group is there."""
+    try:
+        os.killpg(group, 0)
+        return True
+    except ProcessLookupError:
+        return False
 
 
 class Sources(Case):

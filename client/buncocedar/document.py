@@ -2,7 +2,7 @@
 
 from __future__ import annotations
 
-from typing import Callable, NamedTuple, Tuple
+from typing import Callable, NamedTuple, Optional, Tuple
 
 TEXT_LIMIT = 33_554_432  # bytes of a text that are looked at
 
@@ -10,7 +10,8 @@ TEXT_LIMIT = 33_554_432  # bytes of a text that are looked at
 class Text(NamedTuple):
     """What of a document goes into its lines: the head into each. `beyond` is how many bytes of its text were not looked at.
 
-    `terms` are words that find it and are shown nowhere, as `from:ann` and `ext:c`; they go into each line, too.
+    `terms` are words that find it and are shown nowhere, as `from:ann` and `ext:c`; they go into each line, too. `moment` is when it was
+    written, in seconds since 1970, where that is known.
     """
 
     title: str
@@ -18,6 +19,7 @@ class Text(NamedTuple):
     beyond: int = 0
     head: str = ""
     terms: str = ""
+    moment: Optional[int] = None
 
 
 class Document(NamedTuple):

@@ -45,7 +45,7 @@ RECORD = 17  # bytes that a line takes more in the journal, at most
 class Sent(NamedTuple):
     """A document under way: the replies to the adds of its parts, and to the deletions of those that it has no more.
 
-    `parts` and `older` are how many it has, and has no more; `content` is for its stamp.
+    `parts` and `older` are how many it has, and has no more; what stands behind `gone` is for its stamp.
     """
 
     name: str
@@ -59,6 +59,7 @@ class Sent(NamedTuple):
     content: str = ""
     mark: str = ""
     notes: str = ""
+    moment: Optional[int] = None
 
     def is_answered(self):
         """Replies come in the order of their lines, so the last one is there when all are."""
@@ -232,7 +233,7 @@ class Import:
                     del self.naming.used[job.name]
             else:
                 mark = self.known.marked(document.mark)
-                sent = Sent(job.name, chosen.kind, chosen.stamp, document.place, 0, 0, [], [], made.content, mark, document.notes)
+                sent = Sent(job.name, chosen.kind, chosen.stamp, document.place, 0, 0, [], [], made.content, mark, document.notes, made.moment)
                 self.send(sent, made, document)
                 self.collect()
 
@@ -313,7 +314,7 @@ class Import:
                 self.note_what_is_stored(sent)
             if numbers:
                 self.summary.counts[sent.kind] += 1
-                stamps[sent.name] = Stamp(numbers, sent.stamp, self.source, sent.place, sent.content, sent.mark, sent.notes)
+                stamps[sent.name] = Stamp(numbers, sent.stamp, self.source, sent.place, sent.content, sent.mark, sent.notes, sent.moment)
         if stamps:
             self.stamps.put(stamps)
 

@@ -16,7 +16,7 @@ import subprocess
 import sys
 import time
 from collections import deque
-from typing import Callable, NamedTuple
+from typing import Callable, NamedTuple, Optional
 
 from ..document import TEXT_LIMIT, Unfit
 from .naming import content_of
@@ -40,11 +40,14 @@ class Job(NamedTuple):
 
 
 class Made(NamedTuple):
-    """The parts of a document, each a (name, title, body), the digest of its text, and how many bytes of it are left out."""
+    """The parts of a document, each a (name, title, body), the digest of its text, how many bytes of it are left out, and when it
+    was written, where that is known.
+    """
 
     parts: list
     content: str
     beyond: int
+    moment: Optional[int]
 
 
 def made(job):
@@ -53,7 +56,7 @@ def made(job):
         text = job.load()
         if job.whole and text.beyond:
             return Unfit(f"its text has more than {TEXT_LIMIT:,} bytes")
-        return Made(parts_of(job.name, text, job.whole), content_of(text) if job.has_content else "", text.beyond)
+        return Made(parts_of(job.name, text, job.whole), content_of(text) if job.has_content else "", text.beyond, text.moment)
     except (Unfit, OSError) as fault:
         return fault
     except Exception as error:
@@ -240,7 +243,8 @@ def close_pair(pair):
 
 def answer_batches(request, reply):
     """Batches come by one pipe, and what is made of them goes into the other."""
-    with open(request, "rb") as requests, open(reply, "wb") as replies, contextlib.suppress(EOFError, BrokenPipeError):
+    # What was not taken is written as the pipe is closed, too.
+    with contextlib.suppress(EOFError, BrokenPipeError), open(request, "rb") as requests, open(reply, "wb") as replies:
         while True:
             pickle.dump(answered(pickle.load(requests)), replies, pickle.HIGHEST_PROTOCOL)
             replies.flush()

@@ -42,10 +42,12 @@ def date_of(text):
     return f"{day} {day.replace('-', '')}"
 
 
-def moment_of(raw):
-    """When a message was sent by its Date, in seconds since 1970, None where that is not known."""
-    date = email.utils.parsedate_tz(decoded(parted(raw)[0].value(b"date"))[:DATE_LIMIT])
-    return None if date is None else email.utils.mktime_tz(date)
+def moment_of(header):
+    """When a message was sent, or was received last, in seconds since 1970, None where that is not known."""
+    try:
+        return int(email.utils.mktime_tz(email.utils.parsedate_tz(decoded(next(iter(sent_at(header)), b""))[:DATE_LIMIT])))
+    except (TypeError, ValueError, IndexError, OverflowError):
+        return None
 
 
 def sent_at(header):
@@ -97,7 +99,8 @@ class Message:
         head = head_of(self.header, filter(None, (part.file_name for part in parts)))
         terms = " ".join(filter(None, (fields_of(self.header, self.id or self.wanted.encode(), parts), notes)))
         body = "\n".join(text for text, _ in shown)
-        return Text(heading(self.header.value(b"subject")), body, sum(beyond for _, beyond in shown), head, terms)
+        beyond = sum(beyond for _, beyond in shown)
+        return Text(heading(self.header.value(b"subject")), body, beyond, head, terms, moment_of(self.header))
 
 
 def text_from(raw, attached, notes):

@@ -6,7 +6,8 @@ The stamps are a database of SQLite. A row of `stamps` is a document that the in
 - `source` is the digest of what it came from, and `place` where in it: a path below it, and `@BEGIN+LENGTH` where it is a piece
   of a file, spelled as in URLs;
 - `content` is the digest of its text, where `stamp` is of the size and time of a file;
-- `mark` is the form of the import with the size and time of the document's own file, and `notes` what its archive notes of it.
+- `mark` is the form of the import with the size and time of the document's own file, and `notes` what its archive notes of it;
+- `moment` is when it was written, in seconds since 1970, where a message says that.
 
 `sources` says what a source is, `repeats` where else a document stands, and `files` which files of many documents were read to their end.
 An older version had a text of lines, which is read, and replaced by the next import.
@@ -59,7 +60,7 @@ MAGIC = b"SQLite format 3\0"
 TABLES = """
 CREATE TABLE IF NOT EXISTS sources (source TEXT PRIMARY KEY, kind TEXT NOT NULL, path TEXT NOT NULL) WITHOUT ROWID;
 CREATE TABLE IF NOT EXISTS stamps (name TEXT PRIMARY KEY, numbers TEXT NOT NULL, stamp TEXT NOT NULL, source TEXT NOT NULL,
-    place TEXT NOT NULL, content TEXT NOT NULL, mark TEXT NOT NULL, notes TEXT NOT NULL) WITHOUT ROWID;
+    place TEXT NOT NULL, content TEXT NOT NULL, mark TEXT NOT NULL, notes TEXT NOT NULL, moment INTEGER) WITHOUT ROWID;
 CREATE INDEX IF NOT EXISTS in_parts ON stamps (name) WHERE instr(numbers, ',') > 0;
 CREATE TABLE IF NOT EXISTS repeats (source TEXT, place TEXT, name TEXT NOT NULL, mark TEXT NOT NULL, PRIMARY KEY (source, place)) WITHOUT ROWID;
 CREATE INDEX IF NOT EXISTS repeated ON repeats (name);
@@ -67,6 +68,7 @@ CREATE TABLE IF NOT EXISTS files (source TEXT, path TEXT, form TEXT NOT NULL, si
     front INTEGER NOT NULL, digest TEXT NOT NULL, before INTEGER NOT NULL, count INTEGER NOT NULL, PRIMARY KEY (source, path)) WITHOUT ROWID;
 """
 COLUMNS = "numbers, stamp, source, place, content, mark, notes"
+MOMENT = "moment"  # the column behind these, which an older version had not
 
 _NAME = "[!-~]{1,64}"
 _PART = re.compile("(.+)~p([1-9][0-9]*)", re.DOTALL)
@@ -160,7 +162,7 @@ class Stamp(NamedTuple):
     """Of a document: the numbers of its parts, the digest of what it was made of, its source, and its place there.
 
     `content` is the digest of its text, where the other one says nothing of that; empty where it is not known. `mark` is empty
-    where the document has no file of its own.
+    where the document has no file of its own. `moment` is when the document was written, in seconds since 1970.
     """
 
     numbers: tuple
@@ -170,6 +172,7 @@ class Stamp(NamedTuple):
     content: str = ""
     mark: str = ""
     notes: str = ""
+    moment: Optional[int] = None
 
 
 class Source(NamedTuple):
@@ -261,6 +264,7 @@ class Records:
         self._turn = threading.RLock()
         with self._said():
             self.base = self._opened(path)
+            self.columns = f"{COLUMNS}, {MOMENT if has_moments(self.base) else 'NULL'}"
             self.sources = {source: Source(kind, spoken(at)) for source, kind, at in self.base.execute("SELECT * FROM sources")}
 
     def _opened(self, path):
@@ -294,12 +298,12 @@ class Records:
     def of(self):
         """Of each name its stamp."""
         with self._said():
-            return {name: stamp_of(row) for name, *row in self.base.execute(f"SELECT name, {COLUMNS} FROM stamps")}
+            return {name: stamp_of(row) for name, *row in self.base.execute(f"SELECT name, {self.columns} FROM stamps")}
 
     def stamp(self, name):
         """The stamp of a name, None where it has none; without the others being read."""
         with self._said():
-            row = self.base.execute(f"SELECT {COLUMNS} FROM stamps WHERE name = ?", (name,)).fetchone()
+            row = self.base.execute(f"SELECT {self.columns} FROM stamps WHERE name = ?", (name,)).fetchone()
         return row and stamp_of(row)
 
     def found(self, name, moved=None):
@@ -373,6 +377,8 @@ class Stamps(Records):
         base = sqlite3.connect(path, isolation_level=None, timeout=SECONDS_FOR_ROWS)
         base.execute("PRAGMA synchronous = NORMAL")
         base.executescript(TABLES)
+        if not has_moments(base):
+            base.execute(f"ALTER TABLE stamps ADD COLUMN {MOMENT} INTEGER")
         return base
 
     def _is_base(self):
@@ -404,7 +410,7 @@ class Stamps(Records):
     def put(self, stamps):
         """Writes the stamps of some names."""
         self.of.update(stamps)
-        self._write("INSERT OR REPLACE INTO stamps VALUES (?, ?, ?, ?, ?, ?, ?, ?)", [(name, *row_of(stamp)) for name, stamp in stamps.items()])
+        self._write("INSERT OR REPLACE INTO stamps VALUES (?, ?, ?, ?, ?, ?, ?, ?, ?)", [(name, *row_of(stamp)) for name, stamp in stamps.items()])
 
     def put_repeat(self, source, place, name, mark):
         """Writes where else a document stands."""
@@ -451,13 +457,17 @@ class Stamps(Records):
         os.close(self.file)
 
 
+def has_moments(base):
+    return any(name == MOMENT for _, name, *_ in base.execute("PRAGMA table_info(stamps)"))
+
+
 def stamp_of(row):
     numbers, *rest = row
     return Stamp(tuple(map(int, numbers.split(","))) if "," in numbers else (int(numbers),), *rest)
 
 
 def row_of(stamp):
-    return (",".join(map(str, stamp.numbers)), *stamp[1:-1], stamp.notes.encode(errors="replace").decode())
+    return (",".join(map(str, stamp.numbers)), *stamp[1:-2], stamp.notes.encode(errors="replace").decode(), stamp.moment)
 
 
 def spoken(path):
@@ -474,12 +484,12 @@ def take_lines(base, path):
         match = _STAMP.fullmatch(line)
         if match:
             name, *rest = (part.decode() if part else "" for part in match.groups())
-            stamps[name] = (*rest, "", "")
+            stamps[name] = (*rest, "", "", None)
         elif _SOURCE.fullmatch(line):
             base.execute("INSERT OR REPLACE INTO sources VALUES (?, ?, ?)", line[2:].decode().split(" "))
         elif _GONE.fullmatch(line):
             stamps.pop(line[2:].decode(), None)
-    base.executemany("INSERT INTO stamps VALUES (?, ?, ?, ?, ?, ?, ?, ?)", ((name, *row) for name, row in stamps.items()))
+    base.executemany("INSERT INTO stamps VALUES (?, ?, ?, ?, ?, ?, ?, ?, ?)", ((name, *row) for name, row in stamps.items()))
     base.commit()
 
 

@@ -65,7 +65,10 @@ class Places:
         return name in self.in_parts
 
     def moment(self, name):
-        """When a document was written, in seconds since 1970, None where that is not known."""
+        """When a document was written, in seconds since 1970, None where that is not known: as the stamps say, or else what it came from."""
+        stamp = self.records().stamp(name)
+        if stamp is not None and stamp.moment is not None:
+            return stamp.moment
         found = self.found(name)
         return None if found is None else moment_at(found)
 
@@ -108,9 +111,9 @@ def moment_at(found):
         if found.kind == "folder":
             return os.stat(found.path).st_mtime
         if found.kind == "mail":
-            from ..imports import archives, messages
+            from ..imports import archives, header, messages
 
-            return messages.moment_of(archives.raw_at(found))
+            return messages.moment_of(header.parted(archives.raw_at(found))[0])
     except (OSError, ValueError, OverflowError, TypeError, IndexError):
         pass
     return None
