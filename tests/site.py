@@ -581,8 +581,9 @@ class InABrowser(Case):
         browser = self.begin(self.served())
         self.search(browser)
         self.assertEqual(browser.complaints(), [])
-        # No query has left the browser.
-        self.assertFalse([path for path in Quiet.asked if "quick" in path])
+        # A worker searches, and no query has left the browser.
+        self.assertEqual(browser.value("typeof buncoSearcher"), "undefined")
+        self.assertFalse([path for path in Quiet.asked if "quick" in path or path.endswith(".bin.js")])
 
     def test_fast_typing(self):
         self.filled()
