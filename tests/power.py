@@ -10,7 +10,8 @@ of them whole, cut short or overwritten by junk, in any order. The program opens
 `model/answers.py` does behind the lines whose reply was given, or behind one line more.
 
 A program is also killed before it syncs the gate of a record, or of a root, and another one goes on over what is written and not synced.
-What that one answers has to be kept in the same way.
+What that one answers has to be kept in the same way. And a document takes the place of another in an index that an earlier program
+wrote, at each moment of which one of the two is there, and not both.
 
 Then each sync is left out in turn, and the images up to the next sync are tried in the same way. One of them has to lose something.
 A sync may change nothing only for one of three reasons (`Reason`), which are read off the writes around it by docs/FORMAT.md; those
@@ -35,6 +36,7 @@ from typing import NamedTuple
 
 from model.answers import Machine
 from model.reading import HALVES, OPEN, SLOT, SLOTS, Extent, NoIndex, opened
+from model.writing import entry_of_add, index
 
 LINES = [
     "add a\tRed Fox\tthe quick red fox",
@@ -232,6 +234,16 @@ def recording_behind_a_kill(program, path, recording, sync):
     for line in recording.lines[: answered(recording, before.given) + 1]:
         machine.reply(line)
     return recording_of_run(program, path, f"run behind a kill at sync {sync}", before._replace(given=0), machine, GOING_ON)
+
+
+def recording_over_version_1(program, path):
+    """A document that takes the place of another in an index that an earlier program wrote, whose root is raised before."""
+    firm, _ = index(1, 0, 1, 1, 1, [], [], [entry_of_add("a", "Red Fox", "the quick red fox")], [0])
+    with open(path, "wb") as file:
+        file.write(firm)
+    machine = Machine(QUERIES)
+    machine.reply(LINES[0])
+    return recording_of_run(program, path, "run over version 1", Moment(firm, (), 0), machine, ["add a\t\tblue dog"])
 
 
 def syncs_of_gates(recording):
@@ -519,6 +531,7 @@ def main():
         test(run, opener, options, pool)
         for sync in syncs_of_gates(run):
             test(recording_behind_a_kill(program, path, run, sync), opener, options, pool)
+        test(recording_over_version_1(program, path), opener, options, pool)
     print(f"power: {len(opener.found)} images opened in {time.monotonic() - begun:.0f} seconds")
 
 

@@ -11,10 +11,8 @@ use std::test::Fail;
 // More calls than a run makes.
 const CALLS: u64 = 1_000;
 
-// The stats of an index without documents, and of one with the first document of `LEVELS`.
+// The stats of an index without documents.
 const EMPTY: &str = "documents 0 words 0 next 1\n";
-
-const ONE: &str = "documents 1 words 6 next 2\n";
 
 // A line, its reply, and the stats behind it.
 type Row = (&'static str, &'static str, &'static str);
@@ -91,26 +89,6 @@ const CURSORS: [Row; 12] = [
     ),
 ];
 
-// A document in the place of another, which raises a root of version 1.
-const RAISED: [Row; 1] = [(
-    "add a\t\tblue\n",
-    "replaced 1 by 2\n",
-    "documents 1 words 1 next 3\n",
-)];
-
-// The content of a disk with the first document of `LEVELS` under a root of version 1.
-fn earlier(alloc: Global) -> Result<Vec<u8>, Fail> {
-    let mut content = made(alloc)?;
-    if let Some(version) = content.get_mut(1) {
-        *version = 1;
-    }
-    let mut disk = disk_of(alloc, content)?;
-    match call(alloc, &mut disk, "run", LEVELS[0].0.as_bytes(), &[], &[])?.0 {
-        Status::Done => Ok(disk.image(alloc, 0)?),
-        _ => Err("a run that fails".into()),
-    }
-}
-
 // How many rows were answered whole, where what was given is the front of all replies.
 fn answered(alloc: Global, rows: &[Row], given: &[u8]) -> Result<usize, Fail> {
     let mut whole = Vec::new(alloc);
@@ -127,32 +105,25 @@ fn answered(alloc: Global, rows: &[Row], given: &[u8]) -> Result<usize, Fail> {
     Ok(count)
 }
 
-// The stats behind so many rows, or behind all, where these stand before the first.
-fn stats(rows: &[Row], count: usize, before: &'static str) -> &'static [u8] {
+// The stats behind so many rows, or behind all.
+fn stats(rows: &[Row], count: usize) -> &'static [u8] {
     let Some(last) = count.min(rows.len()).checked_sub(1) else {
-        return before.as_bytes();
+        return EMPTY.as_bytes();
     };
     match rows.get(last) {
         Some((_, _, stats)) => stats.as_bytes(),
-        None => before.as_bytes(),
+        None => EMPTY.as_bytes(),
     }
 }
 
 // Each image that the disk may leave has to be answered as the state behind the rows that were answered, or behind one more.
-fn keeps(
-    alloc: Global,
-    rows: &[Row],
-    before: &'static str,
-    given: &[u8],
-    disk: &MemoryDisk,
-) -> Result<bool, Fail> {
+fn keeps(alloc: Global, rows: &[Row], given: &[u8], disk: &MemoryDisk) -> Result<bool, Fail> {
     let count = answered(alloc, rows, given)?;
     for pick in 0..4 {
         let mut image = disk_of(alloc, disk.image(alloc, pick)?)?;
         let (status, said) = call(alloc, &mut image, "run", b"stats\n", &[], &[])?;
         let said = said.as_slice();
-        let is_kept = said == stats(rows, count, before)
-            || said == stats(rows, count.saturating_add(1), before);
+        let is_kept = said == stats(rows, count) || said == stats(rows, count.saturating_add(1));
         if status != Status::Done || !is_kept {
             return Ok(false);
         }
@@ -221,16 +192,12 @@ fn fail_in_turn(
     alloc: Global,
     content: &[u8],
     rows: &[Row],
-    before: &'static str,
     failing: Failing,
 ) -> Result<usize, Fail> {
     let mut gives: usize = 0;
     for number in 1..CALLS {
         let (status, given, disk) = run(alloc, content, rows, failing, number)?;
-        assert!(rt;
-            keeps(alloc, rows, before, &given, &disk)?,
-            "{failing:?} {number}"
-        );
+        assert!(rt; keeps(alloc, rows, &given, &disk)?, "{failing:?} {number}");
         if status == Status::Done {
             assert_eq!(rt; answered(alloc, rows, &given)?, rows.len(), "{failing:?}");
             return Ok(gives);
@@ -243,29 +210,18 @@ fn fail_in_turn(
     Err("a run of many calls".into())
 }
 
-// Runs these rows over this content, whose stats these are, with each call of the disk and of the console failing in turn.
-fn fail_each(
-    rt: &impl Abort,
-    alloc: Global,
-    content: &[u8],
-    rows: &[Row],
-    before: &'static str,
-) -> Result<(), Fail> {
-    for failing in [Failing::Behind, Failing::Disk] {
-        let gives = fail_in_turn(rt, alloc, content, rows, before, failing)?;
-        assert_eq!(rt; gives, 0);
-    }
-    let gives = fail_in_turn(rt, alloc, content, rows, before, Failing::Console)?;
-    assert_eq!(rt; gives, rows.len());
-    Ok(())
-}
-
 #[test]
 fn what_fails_keeps_what_was_answered(rt: HostRuntime) -> Result<(), Fail> {
     let alloc = rt.alloc();
     let content = made(alloc)?;
     for rows in [ADDS.as_slice(), LEVELS.as_slice(), CURSORS.as_slice()] {
-        fail_each(&rt, alloc, &content, rows, EMPTY)?;
+        assert_eq!(rt;
+            fail_in_turn(&rt, alloc, &content, rows, Failing::Behind)?,
+            0
+        );
+        assert_eq!(rt; fail_in_turn(&rt, alloc, &content, rows, Failing::Disk)?, 0);
+        let gives = fail_in_turn(&rt, alloc, &content, rows, Failing::Console)?;
+        assert_eq!(rt; gives, rows.len());
     }
-    fail_each(&rt, alloc, &earlier(alloc)?, RAISED.as_slice(), ONE)
+    Ok(())
 }
