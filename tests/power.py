@@ -195,7 +195,7 @@ def changing(start, calls):
     content, found = bytearray(written(start.firm, start.pending)), []
     for call in calls:
         if call.kind is Kind.WRITE:
-            if len(call.content) >= SECTOR and content[call.place : call.place + len(call.content)] == call.content:
+            if len(call.content) > 1 and content[call.place : call.place + len(call.content)] == call.content:
                 continue
             put(content, call.place, call.content)
         found.append(call)
