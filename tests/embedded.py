@@ -26,6 +26,7 @@ from buncocedar.embedded import EmbeddedIndex, default_library
 
 PROGRAM = None
 DOCUMENTS = 2_000
+HEAD = 2_105_344  # bytes before the first level
 EMBED = os.path.join(TOP, "embed")
 WORDS = ["red", "Fox", "quick", "brown", "dog", "item", "w3", "w42", "even", "odd", "7", "1996", "007"]
 
@@ -131,9 +132,11 @@ class Embedded(unittest.TestCase):
             self.assertEqual(self.program(b"stats\n", content)[0], 7)
 
     def test_damage(self):
-        damaged = bytearray(self.content)
-        damaged[-1] ^= 255
-        for content in (bytes(damaged), self.content[:-1], self.content[: len(self.content) // 2]):
+        # A record of the journal whose length is none, a file that is cut, and each byte of a level's head.
+        record = self.content[:8192] + bytes([165, 255, 255, 255, 255]) + self.content[8197:]
+        level = range(HEAD, HEAD + 40, 8)
+        flipped = [self.content[:at] + bytes([self.content[at] ^ 255]) + self.content[at + 1 :] for at in level]
+        for content in (record, self.content[: len(self.content) // 2], self.content[: HEAD + 100], *flipped):
             with tempfile.NamedTemporaryFile(suffix=".alta") as file:
                 file.write(content)
                 file.flush()
