@@ -31,7 +31,7 @@ fn lines_are_answered_in_memory(rt: HostRuntime) -> Result<(), Fail> {
     let mut detail = 7;
     let n = alta_embed_answer(alloc, &index, LINES, &mut room, &mut detail);
     assert_eq!(rt; n, REPLIES.len() as i64);
-    assert_eq!(rt; &room[..REPLIES.len()], REPLIES);
+    assert!(rt; room.starts_with(REPLIES));
     assert_eq!(rt; detail, 0);
     Ok(())
 }
