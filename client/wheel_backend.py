@@ -1,8 +1,8 @@
 """Makes the wheel of this client, as PEP 517 and the wheel format 1.0 say, with the standard library alone.
 
 The package is the folder `buncocedar`; its commands are those of the table [project.scripts]. In a checkout where a program of these
-very sources serves, the wheel carries it behind its guard, for Linux on x86-64 with glibc 2.34 (PEP 600); elsewhere it is one of
-Python alone, for any machine. Of the same files it is the same bytes.
+very sources serves, the wheel carries it behind its guard, for Linux on x86-64 with glibc 2.34 (PEP 600), and beside it the released
+library for callers in memory; elsewhere it is one of Python alone, for any machine. Of the same files it is the same bytes.
 """
 
 # It stands here since setuptools asks for the package `wheel`, which is not everywhere, and pip fetches both from the
@@ -13,6 +13,7 @@ import hashlib
 import os
 import re
 import subprocess
+import sys
 import tempfile
 import zipfile
 from typing import NamedTuple
@@ -22,6 +23,7 @@ TOP = os.path.dirname(HERE)
 PACKAGE = "buncocedar"
 PURE = "py3-none-any"
 WITH_PROGRAM = "py3-none-manylinux_2_34_x86_64"
+EMBEDDED = ("libalta_embed.so", "alta_embed32.wasm")
 CLASSIFIERS = (
     "Environment :: Console",
     "Operating System :: POSIX :: Linux",
@@ -87,6 +89,16 @@ def program():
         return {name: entry(path) for name, path in below(folder, folder)}
 
 
+def library():
+    """The library for callers in memory, and its module for pages, by name; nothing where the release has none of these very sources."""
+    script, found = os.path.join(TOP, "release", "embedded.py"), {}
+    for name in EMBEDDED if os.path.exists(script) else ():
+        done = subprocess.run([sys.executable, script, "--path", name], stdout=subprocess.PIPE, stderr=subprocess.DEVNULL, text=True)
+        if done.returncode == 0:
+            found[f"libexec/{PACKAGE}/{name}"] = entry(done.stdout.rstrip("\n"))
+    return found
+
+
 def metadata(project, tag):
     """The files that say what the wheel is."""
     head = [
@@ -122,7 +134,7 @@ def contents():
     stem = f"{project['name']}-{project['version']}"
     tag = WITH_PROGRAM if installed else PURE
     files = sources()
-    for name, it in installed.items():
+    for name, it in {**installed, **(library() if installed else {})}.items():
         # `bin` is a scheme of its own; all else stands below the prefix as it is.
         folder, _, rest = name.partition("/")
         files[f"{stem}.data/scripts/{rest}" if folder == "bin" else f"{stem}.data/data/{name}"] = it

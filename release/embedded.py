@@ -133,8 +133,9 @@ def released(word, found):
 def check():
     """Holds what is there to what MANIFEST says."""
     found = manifest()
-    for word in FILES:
-        released(word, found)
+    files = {word: released(word, found) for word in FILES}
+    wasm.checked(files["module"], True)
+    wasm.checked(files["module32"], False)
     if found["sources"] != sources():
         raise Fault("the released library is of other sources than these: release/make.py and then release/embedded.py make one of these")
     return "the released library and its modules are those that release/MANIFEST names, and of these sources"

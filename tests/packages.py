@@ -119,6 +119,20 @@ class Wheel(Packages):
         environment = {**BARE, "PYTHONPATH": place}
         self.uses(os.path.join(place, "bin", "alta"), os.path.join(place, "bin", "bunco"), environment)
 
+    def test_with_the_library(self):
+        self.need_program()
+        folder = self.made("library")
+        for name in ("libalta_embed.so", "alta_embed32.wasm"):
+            self.put(f"../library/{name}", name, 0o755)
+        self.put("release/embedded.py", f"import sys\nprint({folder!r} + '/' + sys.argv[2])\n")
+        wheel, place = self.wheel(self.made("first")), os.path.join(self.folder, "place")
+        done(*PIP, "install", "--quiet", "--no-index", "--target", place, wheel, env={**os.environ, **{"PIP_ROOT_USER_ACTION": "ignore"}})
+        for name in ("libalta_embed.so", "alta_embed32.wasm"):
+            self.same(os.path.join(place, "libexec", "buncocedar", name), os.path.join(folder, name))
+            asked = f"from buncocedar.embedded import released; print(released({name!r}))"
+            said = done(sys.executable, "-c", asked, env={**BARE, "PYTHONPATH": place})
+            self.assertEqual(said, os.path.join(place, "libexec", "buncocedar", name) + "\n")
+
     def need_program(self):
         if not PROGRAM:
             self.skipTest("without the real program")

@@ -9,10 +9,11 @@ The command `rt` is one of the tests' own, which proves in no time what it is le
 import gzip
 import os
 import shutil
+import sys
 import time
 
-from checkouts import KIT, RT, TAKEN, WithRelease, digest_of, script
-from support import run_tests
+from checkouts import KIT, RT, TAKEN, WithRelease, digest_of, done, script
+from support import TOP, run_tests
 
 PROGRAM = None
 
@@ -289,6 +290,87 @@ class Making(WithRelease):
         self.assertIn("there is no release/MANIFEST", self.make("--check", status=1))
         self.put("release/MANIFEST", "version 1\n")
         self.assertIn("release/MANIFEST has no kit, program, sources", self.make("--check", status=1))
+
+
+def wasm_of(flags, names, before=b""):
+    """A WebAssembly module of no code, with a memory of these flags and exports of these names and kinds."""
+
+    def part(number, data):
+        return bytes([number, len(data)]) + data
+
+    given = b"".join(bytes([len(name)]) + name.encode() + bytes([kind, 0]) for name, kind in names)
+    return b"\0asm\1\0\0\0" + before + part(5, bytes([1, flags, 1])) + part(7, bytes([len(names)]) + given)
+
+
+class Library(WithRelease):
+    """`release/embedded.py`, over released files of the tests' own."""
+
+    NAMES = {"library": "libalta_embed-x86_64.so.gz", "module": "alta_embed.wasm.gz", "module32": "alta_embed32.wasm.gz"}
+    EXPORTS = [("memory", 2), ("alta_embed_answer", 0), ("malloc", 0), ("free", 0)]
+
+    def setUp(self):
+        super().setUp()
+        os.makedirs(os.path.join(self.top, "web"))
+        for file in ("release/embedded.py", "web/wasm.py"):
+            shutil.copy(os.path.join(TOP, file), os.path.join(self.top, file))
+        self.environment["PATH"] = os.path.dirname(sys.executable) + os.pathsep + self.environment["PATH"]
+        self.files = {"library": b"library", "module": wasm_of(4, self.EXPORTS), "module32": wasm_of(0, self.EXPORTS)}
+        self.put_files()
+
+    def put_files(self, **values):
+        """Packs the files, and names their digests, but for these values."""
+        for word, data in self.files.items():
+            self.put(f"release/{self.NAMES[word]}", gzip.compress(data))
+        self.release(script("released").encode(), **{**{word: digest_of(data) for word, data in self.files.items()}, **values})
+
+    def asked(self, *words, status=0):
+        return done(sys.executable, os.path.join(self.top, "release", "embedded.py"), *words, status=status, env=self.environment).rstrip("\n")
+
+    def test_the_released_files(self):
+        self.assertIn("are those that release/MANIFEST names, and of these sources", self.asked("--check"))
+        for name, word in {"libalta_embed.so": "library", "alta_embed.wasm": "module", "alta_embed32.wasm": "module32"}.items():
+            for _ in range(2):
+                path = self.asked("--path", name)
+                self.assertEqual(path, os.path.join(self.top, "release", "out", digest_of(self.files[word]), name))
+                with open(path, "rb") as file:
+                    self.assertEqual(file.read(), self.files[word])
+                self.assertEqual(os.listdir(os.path.dirname(path)), [name])
+        self.assertIn("no other.so is released", self.asked("--path", "other.so", status=1))
+
+    def test_what_is_refused(self):
+        def faults(text, *words):
+            self.assertIn(text, self.asked(*words, status=1))
+
+        self.put_files(library="0" * 64)
+        faults("libalta_embed-x86_64.so.gz is not the libalta_embed.so that release/MANIFEST names", "--check")
+        faults("is not the libalta_embed.so", "--path", "libalta_embed.so")
+        self.put_files(sources="0" * 64)
+        faults("of other sources than these", "--check")
+        faults("of other sources than these", "--path", "alta_embed.wasm")
+        faults("release/make.py makes one of these first")
+        self.put_files()
+        self.put("release/alta_embed.wasm.gz", b"none")
+        faults("alta_embed.wasm.gz can't be unpacked", "--check")
+        self.put_files()
+        os.remove(os.path.join(self.top, "release", "alta_embed32.wasm.gz"))
+        faults("alta_embed32.wasm.gz can't be unpacked", "--check")
+        self.release(script("released").encode())
+        faults("release/MANIFEST has no library", "--check")
+        os.remove(os.path.join(self.top, "release", "MANIFEST"))
+        faults("there is no release/MANIFEST", "--check")
+
+    def test_modules_that_are_none(self):
+        an_import = b"\2\x07\1\1a\1b\0\0"
+        rows = {
+            "exports memory, and not": wasm_of(4, self.EXPORTS[:1]),
+            "has an import": wasm_of(4, self.EXPORTS, an_import),
+            "has the flags 0": wasm_of(0, self.EXPORTS),
+            "no WebAssembly module": b"none",
+        }
+        for said, data in rows.items():
+            self.files["module"] = data
+            self.put_files()
+            self.assertIn(said, self.asked("--check", status=1))
 
 
 def take_program(path):

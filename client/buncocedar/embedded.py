@@ -43,8 +43,9 @@ def released(name: str) -> str:
         if done.returncode:
             raise FileNotFoundError(2, done.stderr.strip() or "the release could not be unpacked", name)
         return done.stdout.rstrip("\n")
-    prefixes = (sysconfig.get_path("data"), os.path.join(os.path.expanduser("~"), ".local"), "/usr/local", "/usr")
-    for prefix in prefixes:
+    site = os.path.dirname(os.path.dirname(os.path.abspath(__file__)))
+    prefixes = [site, *(sysconfig.get_paths(scheme)["data"] for scheme in sysconfig.get_scheme_names()), "/usr"]
+    for prefix in dict.fromkeys(prefixes):
         path = os.path.join(prefix, "libexec", "buncocedar", name)
         if os.path.exists(path):
             return path
