@@ -4,17 +4,19 @@
 usage: bench/site.py [--program PATH] [--module PATH] --query QUERY [--query QUERY ..] INDEX ..
 
 Of each index the packed bytes that the page loads before it can answer, the time from the page's opening to its first answer, and of each
-query the median of nine answers with their snippets. Beside that the program: the time from its start to the first answer, and the median
-of nine answers to the same lines. Five are asked before. The files come from this machine.
+query the least of thirty answers with their snippets. Beside that the program, over the index of the site: the time from its start to the
+first answer, and the least of thirty answers to the same lines. Five are asked before. The files come from this machine.
 """
 
 import argparse
 import contextlib
 import functools
+import gzip
 import http.server
 import json
 import os
-import statistics
+import re
+import shutil
 import subprocess
 import sys
 import tempfile
@@ -27,7 +29,7 @@ sys.path[1:1] = [os.path.join(TOP, "client"), os.path.join(TOP, "tests")]
 from browser import Browser, chromium  # noqa: E402
 from buncocedar import Index  # noqa: E402
 
-BEFORE, TURNS = 5, 9
+BEFORE, TURNS = 5, 30
 READY = "document.querySelector('.answer') !== null && shown !== null"
 # Of a query the times of answers, in milliseconds.
 ASKED = """(async () => {
@@ -69,12 +71,19 @@ def made(index, folder):
     return sum(os.path.getsize(os.path.join(folder, "files", name)) for name in os.listdir(os.path.join(folder, "files")) if is_loaded(name))
 
 
+def put_index(folder, path):
+    """Writes the index of a site to a file."""
+    name = next(name for name in os.listdir(os.path.join(folder, "files")) if re.fullmatch(r"index\..*\.bin", name))
+    with gzip.open(os.path.join(folder, "files", name)) as source, open(path, "wb") as target:
+        shutil.copyfileobj(source, target)
+
+
 def is_loaded(name):
     return name.partition(".")[0] in ("module", "index", "table") and name.endswith(".bin")
 
 
-def median(spent):
-    return statistics.median(spent[BEFORE:])
+def least(spent):
+    return min(spent[BEFORE:])
 
 
 def in_browser(folder, queries):
@@ -84,7 +93,7 @@ def in_browser(folder, queries):
         browser.call("Page.navigate", url=f"{address}#q={queries[0]}")
         browser.until(READY)
         first = 1000 * (time.perf_counter() - begun)
-        return first, {query: median(browser.value(ASKED % (BEFORE + TURNS, json.dumps(query)))) for query in queries}
+        return first, {query: least(browser.value(ASKED % (BEFORE + TURNS, json.dumps(query)))) for query in queries}
 
 
 def by_program(path, queries):
@@ -100,7 +109,7 @@ def by_program(path, queries):
                 found[query] = index.top(query, 1000).found
                 index.explain(query)
                 turns.append(1000 * (time.perf_counter() - begun))
-            spent[query] = median(turns)
+            spent[query] = least(turns)
         return first, spent, found
 
 
@@ -121,7 +130,9 @@ def main():
             folder = os.path.join(room, "site")
             loaded = made(path, folder)
             first, spent = in_browser(folder, words.queries)
-        alone, native, found = by_program(path, words.queries)
+            index = os.path.join(room, "index.alta")
+            put_index(folder, index)
+            alone, native, found = by_program(index, words.queries)
         print(f"{path}: {loaded:,} bytes loaded; first answer {first:.0f} ms, of the program {alone:.0f}")
         for query in words.queries:
             print(f"  {query}, {found[query]:,} found: {spent[query]:.1f} ms, of the program {native[query]:.1f}")
