@@ -522,6 +522,10 @@ class Fields(Case):
         self.assertEqual(thread(b"Message-ID: <c@x>\nReferences: <a@x>\n <b@x>\nIn-Reply-To: <b@x>"), first)
         self.assertNotEqual(thread(b"Message-ID: <b@x>"), first)
         self.assertRegex(first, "^thread:[a-p]{16}$")
+        # Of a message that was brought in the header alone says it.
+        self.main(mail, self.path, self.write("mail.mbox", LETTER % (b"one", b"one", b"one")))
+        with mock.patch.object(messages, "parsed", side_effect=AssertionError("its parts are read")):
+            self.assertEqual(documents.Places(self.path).thread("one@x"), f"thread:{fields.thread_word(b'one@x')}")
 
     def test_dates(self):
         for head, line in [

@@ -84,15 +84,12 @@ def thread_word(first):
     return digest(first, 8).translate(THREAD_LETTERS)
 
 
-def fields_of(header, own, parts):
-    """The exact words of a message that has these parts, `mime.Part`s; `own` is its id as bytes, and where it has none what stands
-    for that.
-    """
+def fields_of(header, parts):
+    """The exact words of a message that has these parts, `mime.Part`s, without that of its thread."""
     words = []
     for field, name in ADDRESSES.items():
         words += [f"{field}:{word}" for data in header.values(name) for word in words_in(data[:FIELD_LIMIT])]
     words += [f"list:{word}" for word in list_words(header)]
-    words.append(f"thread:{thread_of(header, own)}")
     for name in filter(None, (part.file_name for part in parts)):
         words += [f"attachment:{word}" for word in (name, *words_of(name))]
     kinds = {part.secured() for part in parts} - {""}

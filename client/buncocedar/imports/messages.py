@@ -13,7 +13,7 @@ import email.utils
 import functools
 
 from ..document import Document, Text, Unfit
-from .fields import fields_of, id_of, notes_of
+from .fields import fields_of, id_of, notes_of, thread_of
 from .header import decoded, heading, parted
 from .mime import Part, one_text, parsed, texts_in
 from .stamps import digest, place_of
@@ -86,6 +86,11 @@ class Message:
     def wanted(self):
         return decoded(self.id) or f"message-{self.stamp}"
 
+    @property
+    def thread(self):
+        """The word by which the messages of its thread are found."""
+        return f"thread:{thread_of(self.header, self.id or self.wanted.encode())}"
+
     def text(self, attached=True, notes=""):
         """What is searched and shown of it. `notes` are the words for what its archive notes of it."""
         message = Part(parsed(self.header, self.body))
@@ -97,7 +102,7 @@ class Message:
             parts = texts = [message]
         shown = [text.text for text in texts]
         head = head_of(self.header, filter(None, (part.file_name for part in parts)))
-        terms = " ".join(filter(None, (fields_of(self.header, self.id or self.wanted.encode(), parts), notes)))
+        terms = " ".join(filter(None, (self.thread, fields_of(self.header, parts), notes)))
         body = "\n".join(text for text, _ in shown)
         beyond = sum(beyond for _, beyond in shown)
         return Text(heading(self.header.value(b"subject")), body, beyond, head, terms, moment_of(self.header))

@@ -10,7 +10,7 @@ import os
 import re
 import tempfile
 
-from ..document import Text, Unfit
+from ..document import Unfit
 from ..imports.packed import is_packed
 from ..imports.stamps import STEM_LIMIT, Records, part_of, stamps_path, stem_of
 from ..terminal import edited
@@ -75,8 +75,14 @@ class Places:
     def thread(self, name):
         """The word by which the messages of a document's thread are found, empty where it has none."""
         found = self.found(name)
-        text = text_at(found) if found is not None and found.kind == "mail" else None
-        return thread_of(text) if isinstance(text, Text) else ""
+        if found is None or found.kind != "mail":
+            return ""
+        from ..imports import archives, messages
+
+        try:
+            return messages.Message(archives.raw_at(found)).thread
+        except (OSError, Unfit):
+            return ""
 
     def has_parts(self):
         self.records()
