@@ -17,7 +17,7 @@ from checkouts import done
 from support import TOP, run_tests
 
 PROGRAM = None
-COMMANDS = ("init", "mail", "folder", "packages", "find", "shell", "web", "serve", "status", "check", "compact", "dump")
+COMMANDS = ("init", "mail", "folder", "packages", "find", "shell", "web", "site", "serve", "status", "check", "compact", "dump")
 FORMER = ("mail", "folder", "packages", "find", "shell", "server", "check", "compact")  # names that go with the next version
 
 
@@ -56,7 +56,8 @@ class Client(unittest.TestCase):
         self.assertIn("found 0\n", done(self.bunco, "find", path, "dog", env=self.environment, status=1))
         asked = done(self.bunco, "shell", path, env=self.environment, input="count fox\n")
         self.assertEqual(asked, "found 1\n")
-        self.assertTrue(os.path.exists(os.path.join(self.place, "buncocedar", "web", "assets", "page.js")))
+        for script in ("web/assets/page.js", "web/assets/http.js", "site/assets/engine.js", "site/assets/searcher.js"):
+            self.assertTrue(os.path.exists(os.path.join(self.place, "buncocedar", script)), script)
         # What is installed is what the checkout has, command for command.
         checkout = os.path.join(TOP, "bunco")
         self.assertEqual(done(self.bunco, "--help", env=self.environment), done(checkout, "--help"))

@@ -21,7 +21,8 @@ class Case(unittest.TestCase):
 
     def setUp(self):
         self.runs = Case.program or FAKE
-        self.top = TemporaryDirectory()
+        # A program that was still being started when its index was killed may write there until it ends.
+        self.top = TemporaryDirectory(ignore_cleanup_errors=True)
         self.addCleanup(self.top.cleanup)
         self.folder = os.path.join(self.top.name, "a.shards")
 

@@ -7,6 +7,7 @@ Without --program the cases run over `fake.py`, those that need the real one are
 """
 
 import itertools
+import multiprocessing
 import os
 import shutil
 import signal
@@ -34,6 +35,7 @@ from buncocedar import (
     QueryFault,
     TooManyCursors,
 )
+from buncocedar.holders import holder
 from buncocedar.imports.stamps import part_name
 from buncocedar.shards import (
     Missing,
@@ -191,9 +193,10 @@ class Calls(Case):
 
     def test_cursors_come_back(self):
         with self.filled() as index:
-            for _ in range(200):
+            for taken in range(200):
                 rows = index.search(EVERY)
-                next(rows)
+                if taken % 2:
+                    next(rows)
                 rows.close()
             shelf = shelf_of(index)
             held = [shelf.begin([0, 1, 2, 3], EVERY)[1] for _ in range(64)]
@@ -205,6 +208,21 @@ class Calls(Case):
             self.assertEqual(len(list(index.search(EVERY))), 300)
             for key in held:
                 shelf.end(key)
+
+    def test_rows_that_outlive_their_index(self):
+        # They begin no program anew as they go.
+        for words in ({}, {"processes": 2}):
+            self.filled().close()
+            with self.open(**words) as index:
+                rows, begun, cursor = index.search(EVERY), index.search(EVERY), index.cursor(EVERY)
+                next(begun)
+            del rows
+            begun.close()
+            cursor.close()
+            self.assertEqual(multiprocessing.active_children(), [])
+            for shard in range(4):
+                self.assertIsNone(holder(shard_path(self.folder, shard)))
+            shutil.rmtree(self.folder)
 
     def test_a_cursor_that_no_shard_could_open(self):
         # One shard has no more cursors: what the others have opened for this query comes back.

@@ -1,11 +1,12 @@
 #!/usr/bin/env python3
-"""Tests of what is done with a folder of shards: moved, split, copied, checked, imported into, searched by `bunco find`, served.
+"""Tests of what is done with a folder of shards: moved, split, copied, checked, imported into, asked by commands, served.
 
 usage: tests/shards_commands.py [--program PATH]
 
 Without --program the cases run over `fake.py`, those that need the real one are left out, and that is said.
 """
 
+import json
 import os
 import shutil
 import signal
@@ -18,10 +19,10 @@ from concurrent.futures import Future
 from support import BUNCO, PATIENCE, TOP, run_tests  # isort: skip
 
 from asking import compared, documents_of_texts, queries
-from sharding import EVERY, FAKE, Case, ours, take_program
+from sharding import EVERY, FAKE, TEXTS, Case, ours, take_program
 
 from buncocedar import Error, Index
-from buncocedar.shards import ShardedIndex, Shelf, settings_of, shard_path
+from buncocedar.shards import ShardedIndex, Shelf, number_of, settings_of, shard_of, shard_path
 from buncocedar.shards.moving import moved, moves
 from buncocedar.shards.places import Fixed, Here
 
@@ -213,6 +214,96 @@ class Importing(Commands):
             self.assertEqual(done.returncode, 0, done.stderr)
             with ShardedIndex.here(self.folder, program=FAKE) as index:
                 self.assertEqual(index.count("fox"), 43)
+
+
+class Status(Commands):
+    def test_a_folder(self):
+        self.needs_the_program()
+        self.filled().close()
+        printed, _ = self.bunco("status", self.folder)
+        self.assertRegex(printed, f"{self.folder}: 300 documents of [0-9,]+ words in 4 of 4 shards\n")
+        self.assertRegex(printed, r": 8,[0-9,]+ bytes, of which [0-9,]+ are free room; levels: 0\n")
+        known = json.loads(self.bunco("status", self.folder, "--json")[0])
+        self.assertEqual((known["shards"], known["missing"], known["documents"], known["holder"]), (4, {}, 300, None))
+
+    def test_a_shard_that_is_missing(self):
+        self.filled().close()
+        os.rename(shard_path(self.folder, 1), self.folder + "-kept")
+        printed, _ = self.bunco("status", self.folder, status=3)
+        self.assertRegex(printed, f"{self.folder}: {300 - ours(1)} documents of [0-9,]+ words in 3 of 4 shards\n")
+        self.assertIn(f"{self.folder}: shard 1 is missing: shard 1 is nowhere\n", printed)
+        self.assertEqual(json.loads(self.bunco("status", self.folder, "--json", status=3)[0])["missing"], {"1": "shard 1 is nowhere"})
+
+    def test_shards_that_are_open(self):
+        with self.filled():
+            printed, _ = self.bunco("status", self.folder, status=3)
+            self.assertRegex(printed, f"{self.folder}: open in process [0-9]+.*, and 3 more shards by others\n")
+
+
+class Typed(Commands):
+    def piped(self, *lines, status=0):
+        """What the shell prints for these lines, and says."""
+        done = subprocess.run(
+            [sys.executable, BUNCO, "shell", self.folder],
+            input="".join(f"{line}\n" for line in lines).encode(errors="surrogateescape"),
+            env={**os.environ, "BUNCOCEDAR_PROGRAM": self.runs},
+            capture_output=True,
+            timeout=PATIENCE,
+        )
+        self.assertEqual(done.returncode, status, done.stderr)
+        return done.stdout.decode(), done.stderr.decode()
+
+    def test_every_command(self):
+        self.make(self.folder, 4)
+        first, second, replaced = (number_of(own, shard_of(name, 4)) for own, name in ((1, "a"), (1, "b"), (2, "a")))
+        for line, reply in [
+            ("add a\tRed Fox\tthe quick\tred fox", f"added {first}"),
+            ("add b\t\tbrown fox", f"added {second}"),
+            ("add a\tRed Fox\tthe slow red fox", f"replaced {first} by {replaced}"),
+            ("count fox", "found 2"),
+            ("search brown", f"{second} b\nfound 1"),
+            ("open brown\nfetch 1 5\nclose 1", f"cursor 1\n{second} b\nend\nclosed 1"),
+            ("open NOT name:!\nopen brown\nfetch 1 1\nclose 1\nopen brown", f"cursor 1\ncursor 2\n{second} b\nmore\nclosed 1\ncursor 1"),
+            ("stats", f"documents 2 words 8 next {max(number_of(3, shard_of('a', 4)), number_of(2, shard_of('b', 4)))}"),
+            ("flush\nstep 5\nmerge", "ok\nok\nok"),
+            ("delete b", f"deleted {second}"),
+        ]:
+            self.assertEqual(self.piped(*line.split("\n")), (reply + "\n", ""), line)
+        if self.program is not None:
+            self.assertEqual(self.piped("top 3 red"), (f"{replaced} a 5\nfound 1\n", ""))
+            self.assertEqual(self.piped("dump"), ("add a\tred fox\tthe slow red fox\ndumped 1\n", ""))
+            self.assertEqual(self.piped("explain fox")[0].split("\n")[0], '"fox"')
+
+    def test_what_is_refused(self):
+        # As by the program over one file.
+        self.make(self.folder, 4)
+        one = os.path.join(self.top.name, "one.alta")
+        Index(one, create=True, program=self.runs).close()
+        lines = ["quit", "delete b", "close 7", "fetch 1 1", "fetch 1", "top 0 x", "top 1001 x", f"top {'9' * 5_000} x", "step 0", "stats ", "search"]
+        lines += ["step 1000001", "delete \udce9", "what \udce9", "count \udce9", "add a\tcaf\udce9\t", "add \t\t", "add a\tb", "flush now", "close 01"]
+        for line in lines:
+            with Index(one, program=self.runs) as index:
+                (reply,) = index.answer(line.encode(errors="surrogateescape"))
+            printed, said = self.piped(line, "count x", status=1)
+            self.assertEqual(printed, "found 0\n", line)
+            self.assertEqual(said.split(":")[0].rstrip("\n"), reply, line)
+
+    def test_cursors(self):
+        self.make(self.folder, 2)
+        printed, said = self.piped(*["open x"] * 65, "close 3", "open x", status=1)
+        self.assertEqual(printed.split("\n")[-4:], ["cursor 64", "closed 3", "cursor 3", ""])
+        self.assertEqual(said, "! too many cursors\n")
+
+    def test_a_shard_that_is_missing(self):
+        self.filled().close()
+        os.rename(shard_path(self.folder, 1), self.folder + "-kept")
+        lost = next(name for name, _, _ in TEXTS if shard_of(name, 4) == 1)
+        printed, said = self.piped("count fox", "open fox", "fetch 1 1000", "search fox", f"delete {lost}", "top 1 fox", status=3)
+        found = 300 - ours(1)
+        self.assertEqual(printed.split("\n")[:2], [f"found {found}", "cursor 1"])
+        self.assertEqual(printed.count("\n"), 2 + found + 1 + found + 2)
+        self.assertEqual(said.count("shell: no answer of 1 shard (1): shard 1 is nowhere\n"), 4)
+        self.assertEqual(said.count("shell: shard 1 is nowhere\n"), 1)
 
 
 class Served(Case):

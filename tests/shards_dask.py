@@ -1,5 +1,6 @@
 #!/usr/bin/env python3
-"""Tests of shards on workers of dask.distributed: workers, machines and programs that are killed, one that hangs, a scheduler that is lost.
+"""Tests of shards on workers of dask.distributed: workers, machines and programs that are killed, one that hangs, a scheduler that is lost,
+and the commands that take its address.
 
 usage: tests/shards_dask.py [--program PATH] [--rounds N] [--seed N] [--shards S] [--machines M]
 
@@ -14,14 +15,16 @@ import argparse
 import logging
 import os
 import random
+import re
 import signal
+import subprocess
 import sys
 import tempfile
 import threading
 import time
 
 import fake
-from support import PATIENCE
+from support import BUNCO, PATIENCE
 
 from buncocedar import Added, NoSuchDocument
 from buncocedar.shards import Missing, NotAnswered, shard_of
@@ -218,6 +221,47 @@ def a_scheduler_that_is_lost(cluster, client):
     client.nothing_lost()
 
 
+def bunco(program, *words, typed="", status=0):
+    """What the command prints, and says."""
+    environment = {**os.environ, "BUNCOCEDAR_PROGRAM": program}
+    done = subprocess.run([sys.executable, BUNCO, *words], input=typed, env=environment, capture_output=True, text=True, timeout=PATIENCE)
+    assert done.returncode == status, f"{words} ended with {done.returncode}: {done.stderr}"
+    return done.stdout, done.stderr
+
+
+def homes(cluster, program):
+    """Where each shard stands, as `bunco shards stats` prints it."""
+    printed, _ = bunco(program, "shards", "stats", cluster.address)
+    return {int(shard): place for shard, place in re.findall(r"^ *(\d+) (\S+) [\d,]+ documents", printed, re.MULTILINE)}
+
+
+def commands(cluster, client, options, program, folder):
+    """A shard is moved by one command and back by the one that `plan` prints, all are copied, and others ask by the address."""
+    found = client.index.count("fox")
+    before = homes(cluster, program)
+    assert sorted(before) == list(range(options.shards)), before
+    assert bunco(program, "shards", "plan", cluster.address) == ("", "")
+    target = before[1]
+    assert re.search("shard 0, [0-9,]+ bytes, is at", bunco(program, "shards", "move", cluster.address, "0", target)[1])
+    assert homes(cluster, program) == {**before, 0: target}
+    assert "is at" in bunco(program, "shards", "move", cluster.address, "0", target, status=2)[1]
+    assert "none of the workers" in bunco(program, "shards", "move", cluster.address, "0", "nowhere:1", status=2)[1]
+    planned, _ = bunco(program, "shards", "plan", cluster.address)
+    assert len(planned.splitlines()) == 1 and planned.startswith(f"bunco shards move {cluster.address} "), planned
+    bunco(program, *planned.split()[1:])
+    assert bunco(program, "shards", "plan", cluster.address) == ("", "")
+    client.settle()
+    client.nothing_lost()
+    copy = os.path.join(folder, "copy")
+    if options.program:
+        _, said = bunco(program, "shards", "copy", cluster.address, copy)
+        assert f"{options.shards} of {options.shards} shards" in said, said
+        assert bunco(program, "find", copy, "fox", "--count")[0] == f"{found}\n"
+    printed, _ = bunco(program, "status", cluster.address)
+    assert f" in {options.shards} of {options.shards} shards\n" in printed, printed
+    assert bunco(program, "shell", cluster.address, typed="count fox\n")[0] == f"found {found}\n"
+
+
 def main():
     parser = argparse.ArgumentParser(description=__doc__, formatter_class=argparse.RawDescriptionHelpFormatter)
     parser.add_argument("--program")
@@ -241,10 +285,11 @@ def main():
                 back = kills(cluster, client, options, chance)
                 a_worker_that_is_stopped(cluster, client, options)
                 a_scheduler_that_is_lost(cluster, client)
+                commands(cluster, client, options, program, folder)
         finally:
             cluster.close()
     print(
-        f"shards_dask: {options.rounds} kills, a worker that was stopped, a scheduler that was lost: {client.answered:,} changes "
+        f"shards_dask: {options.rounds} kills, a worker that was stopped, a scheduler that was lost, commands: {client.answered:,} changes "
         f"answered, none lost; {client.unanswered:,} not answered; {client.whole:,} answers whole and {client.partial:,} that said what "
         f"they lacked; whole again after {max(back):.1f} s at most (seed {options.seed})"
     )

@@ -617,6 +617,17 @@ class InABrowser(Case):
         browser.until("location.search === '?q=quick+brown'")
         self.assertEqual(browser.complaints(), [])
 
+    def test_what_is_typed_is_shown_as_what_is_loaded(self):
+        browser = self.begin()
+        for query in ("quick", "zebra", FAULTY if PROGRAM is FAKE else "fox \u65e5)"):
+            browser.value("(box.value = '', box.focus())")
+            browser.type(query)
+            browser.until(f"location.search && shown === addressOf({{ q: {json.dumps(query)}, order: 'best' }})")
+            typed = browser.value("document.getElementById('main').innerHTML + document.title")
+            browser.open(f"http://127.0.0.1:{self.port}/?q={quote(query)}")
+            loaded = browser.value("document.getElementById('main').innerHTML + document.title")
+            self.assertEqual(typed, loaded)
+
     def test_keys(self):
         browser = self.begin("/?q=quick&order=newest")
         browser.press("ArrowDown")
@@ -667,6 +678,15 @@ class InABrowser(Case):
         browser.type("fault 8 Paren x)")
         browser.until("document.querySelector('pre.fault') !== null")
         self.assertEqual(browser.value("document.activeElement.id"), "q")
+
+    def test_somebody_has_it_as_one_types(self):
+        browser = self.begin()
+        until(lambda: self.text("/"))
+        with Index(self.path, patience=PATIENCE):
+            for query in ("quick", ""):
+                browser.value(f"(box.value = {json.dumps(query)}, ask())")
+                browser.until(f"shown === addressOf({{ q: {json.dumps(query)}, order: 'best' }})")
+                self.assertIn("is open in", browser.value("document.querySelector('.fault').textContent"))
 
     def test_without_scripts(self):
         browser = self.begin()

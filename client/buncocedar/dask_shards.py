@@ -23,7 +23,7 @@ from concurrent.futures import TimeoutError as NoAnswerYet
 from typing import Any, Dict, List, Optional
 
 try:
-    from distributed import Client
+    from distributed import Client  # type: ignore[import]
 except ImportError as error:
     raise ImportError("shards on workers need dask.distributed: Debian's package python3-distributed has it") from error
 

@@ -20,16 +20,19 @@ DOCUMENTS = [
     "docs/alta.1",
     "docs/ARCHITECTURE.md",
     "docs/DECISIONS.md",
+    "docs/FIGURES.md",
     "docs/FORMAT.md",
     "docs/GUARANTEES.md",
     "docs/GUIDE.md",
     "docs/PLAN.md",
     "docs/QUERIES.md",
     "docs/READING.md",
+    "docs/SCALE.md",
+    "tests/README.md",
 ]
 MOST = 40  # words of a sentence
 # What these point at has to be named.
-POINTERS = ["of before", "such a one", "such ones", "of such", "the former", "the latter", "and vice versa", "of these one", "as said"]
+POINTERS = ["of before", "such a", "such an", "such ones", "of such", "the former", "the latter", "and vice versa", "of these one", "as said"]
 CODE = re.compile(r"`[^`]*`")
 END = re.compile(r"[.?!][)\"*]*(?=\s|$)")
 WORD = re.compile(r"\w")

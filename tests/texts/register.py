@@ -6,9 +6,9 @@ order, each once, under the headings of the layers, and no other document has a 
 above its own, as crates.txt has it. The drawing of the layers has each crate of the program once, in the layer of its heading. The
 register says of each of these whether it touches a disk or a console, which is whether its sources use these.
 
-No crate, no file and no heading of docs/FIGURES.md is named in the documents below that is not there. docs/READING.md names each
+No crate, no file and no part of a document is named in the documents below that is not there. docs/READING.md names each
 file of definitions to which the contract of `alta` leads by `use` lines, so that a reader of that page has read all that the
-contract says: in the tables those of which a definition is reached from the contract, with words that they define, and apart from
+contract says: in the lists those of which a definition is reached from the contract, with words that they define, and apart from
 these the others. The functions of its theorems stand in the files that it names beside them.
 """
 
@@ -21,6 +21,7 @@ STATEMENTS = "docs/GUARANTEES.md"
 READING = "docs/READING.md"
 FIGURES = "docs/FIGURES.md"
 OTHERS = ["README.md", "CONTRIBUTING.md", "docs/DECISIONS.md", "docs/PLAN.md", "docs/FORMAT.md", "docs/QUERIES.md"]
+OTHERS += ["docs/GUIDE.md", "docs/SCALE.md"]
 DOCUMENTS = [REGISTER, STATEMENTS, READING, FIGURES] + OTHERS
 CONTRACT = "crates/alta_session/src/top.rt"
 ROW = re.compile(r"^\| `?((?:alta|check|bench)_\w+)`? \|", re.MULTILINE)
@@ -30,15 +31,15 @@ CODE = re.compile(r"`[^`\n]*`")
 ALTA = re.compile(r"\balta_[a-z]+\b")
 PLAIN = re.compile(r"\b(?:alta|check|bench)_[a-z]+\b")  # in code `check_list` and the like are calls
 PATH = re.compile(r"`((?:[\w.-]+/)+[\w-]+\.\w+)`")
-HEADING = re.compile(r"^\*\*([^*]+)\.\*\*", re.MULTILINE)
-MEASURED = re.compile(r'`docs/FIGURES\.md`, "([^"]+)"')
+HEADING = re.compile(r"^(?:#+ (.+)|\*\*([^*]+)\.\*\*)", re.MULTILINE)
+NAMED_PART = re.compile(r'`((?:docs/)?[A-Z]+\.md)`,\s+"([^"]+)"')
 USE = re.compile(r"^\s*(?:ghost )?use Rattle\.(\w+)\.specs\.(\w+)", re.MULTILINE)
 NAMES = re.compile(r"^\s*(?:ghost |pub )*use Rattle\.(\w+)\.specs\.(\w+)\.\{([^}]*)\}", re.MULTILINE)
 INSIDE = re.compile(r"^(?:(?:\w+ )*mutual$|module )")
 DEFINITION = re.compile(r"^((?:(?:pub|abbrev|unfoldable|record|data) +)+)([\w◌>=]+)")
 CASE = re.compile(r"^ +([\w']+) :")
 WORD = re.compile(r"[\w']+|>>=")
-READ = re.compile(r"^\| `(\w+/(?:specs|src)/\w+\.\w+)` \| ([^|]*) \|", re.MULTILINE)
+READ = re.compile(r"^(?:- |\| )`(\w+/(?:specs|src)/\w+\.\w+)` (?:\(|\| )([^|)]*)(?:\):| \|)", re.MULTILINE)
 THEOREMS = re.compile(r"((?:`[\w:]+`(?: \(clause `\w+`\))?(?:, )?)+) (?:\(|in )`(\w+/src/\w+\.rt)`")
 
 
@@ -135,7 +136,6 @@ def named(text):
 def faults_in(crates, texts, exists):
     """The faults of these documents, paths with their texts; `exists` tells whether a path of the repository is there."""
     faults = register_faults(crates, texts[REGISTER])
-    headings = HEADING.findall(texts[FIGURES])
     for path, text in texts.items():
         faults += [f"{path}: {name} is no crate" for name in sorted(named(text) - set(crates))]
         faults += [f"{path}: {name} has a row, which belongs into the register" for name in ROW.findall(text) if path != REGISTER]
@@ -144,8 +144,15 @@ def faults_in(crates, texts, exists):
             for file in sorted(set(PATH.findall(text)))
             if not exists(file) and not exists("crates/" + file)
         ]
-        faults += [f"{path}: no figures are headed {name}" for name in MEASURED.findall(text) if name not in headings]
+        faults += [f"{path}: nothing in {other} is headed {name}" for other, name in lost_parts(text, texts)]
     return faults
+
+
+def lost_parts(text, texts):
+    """The parts of documents that a text names and that are not there, as `docs/GUIDE.md`, "Updates"."""
+    headings = {path: {" ".join(found) for found in map(str.split, map("".join, HEADING.findall(there)))} for path, there in texts.items()}
+    named = [(path, " ".join(name.split())) for path, name in NAMED_PART.findall(text)]
+    return [(path, name) for path, name in named if path in headings and name not in headings[path]]
 
 
 def led_to(start, text_of):
@@ -216,10 +223,10 @@ def reading_faults(files, text, text_of, reached):
     """What the page for readers leaves out of these files, and which of its words are not where it says."""
     faults = [f"{READING}: {path} is not named" for path in files if f"`{path[len('crates/'):]}`" not in text]
     rows = [("crates/" + path, CODE.findall(words)) for path, words in READ.findall(text)]
-    tables = {path for path, _ in rows}
+    listed = {path for path, _ in rows}
     for path in files:
-        if f"`{path[len('crates/'):]}`" in text and (path in tables) != (path in reached):
-            faults.append(f"{READING}: {path} is " + ("reached and in no table" if path in reached else "in a table and not reached"))
+        if f"`{path[len('crates/'):]}`" in text and (path in listed) != (path in reached):
+            faults.append(f"{READING}: {path} is " + ("reached and in no list" if path in reached else "in a list and not reached"))
     for path, words in rows:
         there = text_of(path) or ""
         known = set(definitions(there)[0]) if path.endswith(".antt") else set(WORD.findall(there))
@@ -297,7 +304,7 @@ second = w
 """
 
 PAGE = """
-| `alta_a/specs/One.antt` | `x`, `y` | it |
+- `alta_a/specs/One.antt` (`x`, `y`): it
 | `alta_b/specs/Three.antt` | `w` | it |
 | `it_holds`, `it_fails` (`alta_b/src/laws.rt`) | it |
 """
@@ -337,7 +344,7 @@ def test_itself():
     fails("what is touched", touch_faults(good, used), [f"{REGISTER}: alta_b touches console"])
     texts = {REGISTER: good, STATEMENTS: STATED, FIGURES: "**Adds.** `bench/adds.py`, **not Sums.**\n"}
     want = ["alta_z is no crate", "check_y is no crate", "check_c has a row, which belongs into the register"]
-    want += ["there is no alta_a/specs/No.antt", "no figures are headed Sums"]
+    want += ["there is no alta_a/specs/No.antt", f"nothing in {FIGURES} is headed Sums"]
     there = ("tests/a.py", "bench/adds.py", FIGURES)
     fails("names", faults_in(crates, texts, lambda path: path in there), [f"{STATEMENTS}: {fault}" for fault in want])
 
@@ -355,7 +362,7 @@ def test_reading():
     fails("use lines", found, [f"crates/{path}.antt" for path in ("alta_a/specs/One", "alta_b/specs/Three", "alta_b/specs/Two")])
     reached = reached_from("top", files.get)
     fails("what is reached", reached, {"crates/alta_a/specs/One.antt": {"x"}, "crates/alta_b/specs/Two.antt": {"D"}})
-    want = ["crates/alta_b/specs/Two.antt is not named", "crates/alta_b/specs/Three.antt is in a table and not reached"]
+    want = ["crates/alta_b/specs/Two.antt is not named", "crates/alta_b/specs/Three.antt is in a list and not reached"]
     want += ["crates/alta_a/specs/One.antt does not define `y`", "there is no it_fails in alta_b/src/laws.rt"]
     fails("reading", reading_faults(found, PAGE, files.get, reached), [f"{READING}: {fault}" for fault in want])
 

@@ -14,6 +14,7 @@ from ..replies import Added
 from ..texts import name_ok, whole
 from .changes import BATCH, Change, Outbox, outcome_of
 from .errors import NotAnswered
+from .lines import Lines
 from .places import places_of
 from .queries import ShardedQueries, whole_answer
 from .whereabouts import Whereabouts
@@ -42,6 +43,8 @@ class ShardedIndex(ShardedQueries):
             source.close()
             raise
         self._outbox = Outbox(self._where)
+        self._held = {}
+        self._lines = Lines(self)
 
     @classmethod
     def here(
@@ -152,6 +155,15 @@ class ShardedIndex(ShardedQueries):
         parts, missing = self._gathered("copy", folder)
         return sum(size for _, size in parts), missing
 
+    # -- Any line.
+
+    def each_answer(self, line: bytes) -> Iterator[str]:
+        """The lines of the reply to a command line, given in bytes without a newline, as they come.
+
+        Raises the `Refused` that `Index.each_answer` gives as a line, `NotAnswered`, and `Missing` behind what the others say.
+        """
+        return self._lines.each_answer(line)
+
     # -- The end.
 
     def __enter__(self) -> ShardedIndex:
@@ -178,12 +190,16 @@ class ShardedIndex(ShardedQueries):
         """
         try:
             self._outbox.settle()
+            for place, key in list(self._held):
+                self._give_back(place, key)
         finally:
+            self._held.clear()
             self._source.close()
         self._outbox.raise_untaken()
 
     def kill(self) -> None:
         """Ends the programs of this machine at once. Of the changes without an answer any may be done."""
+        self._held.clear()
         for place in self.places:
             place.kill()
 

@@ -24,6 +24,7 @@ class ShardedQueries:
 
     _where: Whereabouts
     _outbox: Outbox
+    _held: Dict[Tuple[Any, int], None]  # the rows that places hold for this client, each by its place and key there
 
     @property
     def shards(self) -> int:
@@ -79,9 +80,18 @@ class ShardedQueries:
 
     def _rows(self, place, key, missing) -> Iterator[tuple]:
         """The rows (age, number, name) of a place. What goes wrong is put into `missing`."""
+        rows = self._begun_rows(place, key, missing)
+        # A generator that never began has no end, which is what gives back what the place holds.
+        next(rows)
+        return rows
+
+    def _begun_rows(self, place, key, missing):
+        """Nothing, as it begins, and then the rows."""
+        self._held[place, key] = None
         more = True
-        future = place.call("more", key, ROWS)
         try:
+            yield ()
+            future = place.call("more", key, ROWS)
             while more:
                 try:
                     failed, rows, more = future.result(self._where.patience + SECONDS_OVER)
@@ -95,9 +105,15 @@ class ShardedQueries:
                 yield from map(tuple, rows)
                 if more and not place.is_apart:
                     future = place.call("more", key, ROWS)
+            self._held.pop((place, key), None)
         finally:
-            if more:
-                place.call("end", key)
+            self._give_back(place, key)
+
+    def _give_back(self, place, key):
+        """Has a place let go of rows that it still holds."""
+        if (place, key) in self._held:
+            del self._held[place, key]
+            place.call("end", key)
 
     def cursor(self, query: str) -> ShardedCursor:
         """A `ShardedCursor` over the documents that match now, in each shard. Raises `QueryFault` and `TooManyCursors`."""

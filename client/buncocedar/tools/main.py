@@ -33,6 +33,7 @@ COMMANDS = (
     Command("find", "buncocedar.tools.find", "find documents, by one query or at a prompt"),
     Command("shell", "buncocedar.tools.shell", "a prompt for all commands of an index"),
     Command("web", "buncocedar.web.main", "a page to search on, for your own browser"),
+    Command("site", "buncocedar.site.main", "a folder for any web server, whose page searches by itself"),
     Command("serve", "buncocedar.server", "share an index between many programs"),
     Command("status", "buncocedar.tools.status", "what an index has, and who has it open"),
     Command("check", "buncocedar.tools.check", "read all of an index, and say whether it is whole"),

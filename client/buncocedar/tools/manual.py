@@ -30,6 +30,7 @@ class Page(NamedTuple):
 
 
 PROGRAM = Item("BUNCOCEDAR_PROGRAM", "the path of the program; else it is alta of the checkout, or as it was installed with the client, or on the PATH")
+MODULE = Item("BUNCOCEDAR_MODULE", "the path of the WebAssembly module; else it is that of the checkout, or as it was installed with the client")
 HISTORY = Item("BUNCOCEDAR_HISTORY", "the file of the history; empty, none is kept")
 EDITOR = Item("VISUAL, EDITOR", "the editor")
 PAGER = Item("PAGER, NO_COLOR", "what shows long answers, and that no colours are used")
@@ -79,6 +80,12 @@ FACTS: Dict[str, Facts] = {
         ("find", "dump"),
     ),
     "web": ([INDEX, STAMPS, SOCKET], [PROGRAM], DONE, ("find", "serve")),
+    "site": (
+        [INDEX, STAMPS, Item("FOLDER/bunco-site.json", "the mark of a folder that this command may write over")],
+        [PROGRAM, MODULE],
+        DONE,
+        ("web", "find"),
+    ),
     "serve": (
         [INDEX, SOCKET],
         [PROGRAM],

@@ -1,16 +1,17 @@
-"""A prompt for all commands of an index.
+"""A prompt for all commands of an index, or of a folder of shards.
 
 A line is a command of the program, as README.md has them; `help` prints them. `add NAME` alone asks for title and body, since
 a tab completes words here. Lines that come from a file or a pipe are answered in the same way, and a refusal is an error of
-theirs. The status is 0, 1 where a line that was not typed was refused, 2 for wrong words, and 3 where the index could not be
-asked.
+theirs. The status is 0, 1 where a line that was not typed was refused, 2 for wrong words, and 3 where the index, or a shard of
+it, could not be asked.
 """
 
 import argparse
 import sys
 
-from ..errors import Error, QueryFault, Refused
-from ..index import Index
+from ..errors import Error, QueryFault, Refused, refusal_of
+from ..replies import query_in
+from ..shards import Missing, NotAnswered, open_index
 from ..terminal import printable, quiet_end, why
 from .prompt import Prompt
 
@@ -48,7 +49,7 @@ class Shell:
         self.prompt = prompt
 
     def answer(self, line):
-        """Prints the reply to a line, and tells whether it was done."""
+        """Prints the reply to a line, and answers its status: 0, or that it was refused, or that a shard gave no answer."""
         word, _, rest = line.partition(" ")
         try:
             if self.prompt.typed and line.strip() in ("help", "?"):
@@ -59,9 +60,14 @@ class Shell:
                 self.say(line)
         except Refused as refusal:
             print(refusal, file=sys.stderr)
-            return False
+            return SOME_REFUSED
+        except (Missing, NotAnswered) as lack:
+            # What the other shards said is printed.
+            sys.stdout.flush()
+            print(f"shell: {lack}", file=sys.stderr)
+            return STOPPED
         sys.stdout.flush()
-        return True
+        return 0
 
     def add(self, name):
         title = self.prompt.ask("title> ")
@@ -73,15 +79,17 @@ class Shell:
 
     def say(self, line):
         """Prints the reply to a line, whose bytes the program gets as they are."""
-        reply = self.index.send_line(line.encode(errors="surrogateescape"))
-        for text in reply.each_line():
+        data = line.encode(errors="surrogateescape")
+        for text in self.index.each_answer(data):
             if text.startswith("! "):
-                raise reply.error if isinstance(reply.error, QueryFault) else Refused(text)
+                word = data.partition(b" ")[0]
+                refusal = refusal_of(text, "", query_in(data, word))
+                raise refusal if isinstance(refusal, QueryFault) else Refused(text)
             print(shown(text))
 
 
 def opened(options):
-    return Index(
+    return open_index(
         options.index,
         create=options.create,
         patience=options.wait,
@@ -96,8 +104,8 @@ def run(options, prompt):
     try:
         for line in prompt.lines("alta> "):
             try:
-                if not Shell(index, prompt).answer(line) and not prompt.typed:
-                    status = SOME_REFUSED
+                said = Shell(index, prompt).answer(line)
+                status = status if prompt.typed else max(status, said)
             except KeyboardInterrupt:
                 # A call that waits for the program is broken off with it.
                 if not prompt.typed:

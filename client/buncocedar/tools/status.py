@@ -1,8 +1,11 @@
 """Says what an index has: documents and words, levels and free room of its file, who has it open, and what was brought in.
 
-Nothing is read but the root of the file, the figures that the program gives, and the stamps that the imports keep beside it.
+INDEX is a file, a folder of shards, or the address of a scheduler whose workers have them. Of shards the figures are summed up, and
+each one that is missing is named.
 
-The status is 0, and 3 where the index could not be asked: what its file says is said then all the same.
+Nothing is read but the root of each file, the figures that the program gives, and the stamps that the imports keep beside the index.
+
+The status is 0, and 3 where the index, or a shard of it, could not be asked: what the files say is said then all the same.
 """
 
 import argparse
@@ -18,6 +21,7 @@ from ..holders import holder
 from ..imports.stamps import Records, stamps_path
 from ..index import SECONDS_FOR_A_SERVER, Index
 from ..links import connected
+from ..shards import Missing, is_address, is_folder_of_shards, open_index, shard_path, shards_in
 
 STOPPED = 3
 FIGURES = re.compile(rb"figures clients ([0-9]+) waiting ([0-9]+) cursors ([0-9]+)\n")
@@ -74,9 +78,62 @@ def of_stamps(path):
     return [{"kind": kind, "path": archive, "documents": count} for (kind, archive), count in sorted(counts.items())]
 
 
+def of_shards(path, patience):
+    """What the shards of an index say together, and why each one that is missing says nothing."""
+    with open_index(path, patience=patience) as index:
+        try:
+            told, missing = index.stats_of_shards(), {}
+        except Missing as lack:
+            told, missing = lack.answer, lack.shards
+    return {
+        "shards": index.shards,
+        "missing": missing,
+        "documents": sum(stats.documents for stats in told.values()),
+        "words": sum(stats.words for stats in told.values()),
+    }
+
+
+def of_files(folder):
+    """What the files of a folder of shards say: their bytes, their free room, and the levels of the one that has most."""
+    files = [of_file(shard_path(folder, shard)) for shard in shards_in(folder)]
+    return {
+        "bytes": sum(file["bytes"] for file in files),
+        "free": sum(file["free"] for file in files),
+        "levels": max((file["levels"] for file in files), default=0),
+    }
+
+
+def of_imports(path):
+    """The sources that were brought in."""
+    return {"sources": of_stamps(path)}
+
+
+def looks(path, patience):
+    """The ways to look at what stands there, each of which answers what it finds."""
+    server, program, shards = (lambda path, of=of: of(path, patience) for of in (of_server, of_program, of_shards))
+    if is_address(path):
+        return shards, of_imports
+    if is_folder_of_shards(path):
+        return of_files, shards, of_imports
+    return of_file, server, program, of_imports
+
+
+def holders(path):
+    """Who has the index open: of shards the first that is open, and how many others are. Of workers elsewhere nobody knows."""
+    files = [shard_path(path, shard) for shard in shards_in(path)] if is_folder_of_shards(path) else [path]
+    known = list(filter(None, map(holder, files)))
+    if len(known) < 2:
+        return known[0] if known else None
+    return f"{known[0]}, and {len(known) - 1:,} more shards by others"
+
+
 def shown(path, known):
     """The lines that say what is known of an index."""
-    if "documents" in known:
+    if "shards" in known:
+        yield f"{path}: {known['documents']:,} documents of {known['words']:,} words in {known['shards'] - len(known['missing']):,} of {known['shards']:,} shards"
+        for shard, why in known["missing"].items():
+            yield f"{path}: shard {shard} is missing: {why}"
+    elif "documents" in known:
         yield f"{path}: {known['documents']:,} documents of {known['words']:,} words; the next one gets the number {known['next']:,}"
     if "bytes" in known:
         yield f"{path}: {known['bytes']:,} bytes, of which {known['free']:,} are free room; levels: {known['levels']}"
@@ -92,8 +149,8 @@ def shown(path, known):
 def main(arguments=None):
     options = parser().parse_args(arguments)
     path, faults = options.index, []
-    known = {"holder": holder(path), "sources": []}
-    for look in (of_file, lambda path: of_server(path, options.wait), lambda path: of_program(path, options.wait), lambda path: {"sources": of_stamps(path)}):
+    known = {"holder": holders(path), "sources": []}
+    for look in looks(path, options.wait):
         try:
             known.update(look(path))
         except (Error, OSError, Unusable) as error:
@@ -104,4 +161,4 @@ def main(arguments=None):
         print(*shown(path, known), sep="\n")
     for why in map(str, faults):
         print(f"status: {why}" if path in why else f"status: {path}: {why}", file=sys.stderr)
-    return STOPPED if faults else 0
+    return STOPPED if faults or known.get("missing") else 0

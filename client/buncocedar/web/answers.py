@@ -154,6 +154,12 @@ def day_of(values: Dict[str, List[str]]) -> str:
     return first(values, "Date").partition(" ")[0]
 
 
+def fields_of(kind: str, values: Dict[str, List[str]]) -> List[Tuple[str, str]]:
+    """The fields of a document that are shown above its text."""
+    fields = [(field, value) for field in FIELDS for value in values.get(field, [])]
+    return [(field, day_of(values) if kind == "mail" and field == "Date" else value) for field, value in fields]
+
+
 def thread_of(text: Text) -> str:
     """The word that the messages of one thread are found by, empty where a text has none."""
     found = THREAD.search(text.terms)
@@ -165,6 +171,12 @@ def named_before(raw: bytes) -> List[str]:
     fields, _ = header.parted(raw)
     said = b" ".join([*fields.values(b"references"), *fields.values(b"in-reply-to")])
     return list(dict.fromkeys(header.decoded(one) for one in IDENTIFIER.findall(said)))[:MOST_LINKED]
+
+
+def with_text(bare: Answer, text: Text) -> Answer:
+    """An answer with what its text says of it besides the snippet."""
+    values = head_of(text)
+    return bare._replace(title=text.title or bare.name, writer=first(values, "From"), day=day_of(values))
 
 
 class LastRows:
@@ -264,10 +276,8 @@ class Library:
         text = text_at(found)
         if isinstance(text, str):
             return bare._replace(snippet=[Piece(f"({text})", False)])
-        values = head_of(text)
         line, snippet = best_of(text, wanted)
-        title = text.title or name
-        return bare._replace(title=title, writer=first(values, "From"), day=day_of(values), line=line, snippet=snippet)
+        return with_text(bare, text)._replace(line=line, snippet=snippet)
 
     # -- Whole documents.
 
@@ -295,15 +305,12 @@ class Library:
         values = head_of(text)
         # Fields stand above the lines, which are counted from the body's first.
         best = wanted.best_line(body[:LINES]) if wanted else None
-        fields = [(field, value) for field in FIELDS for value in values.get(field, [])]
-        if found.kind == "mail":
-            fields = [(field, day_of(values) if field == "Date" else value) for field, value in fields]
         return Shown(
             name,
             found.kind,
             text.title or name,
             found.path,
-            fields,
+            fields_of(found.kind, values),
             values.get("Attachment", []),
             [pieces_of(line, wanted.spans(line) if wanted else []) for line in body[:LINES]],
             0 if best is None else best + 1,

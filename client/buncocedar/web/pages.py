@@ -2,7 +2,7 @@
 
 from __future__ import annotations
 
-from typing import List, Optional, Union
+from typing import List, Mapping, NamedTuple, Optional, Tuple, Union
 from urllib.parse import urlencode
 
 from ..texts import marked
@@ -33,6 +33,24 @@ KEYS = (
 )
 
 
+
+class Frame(NamedTuple):
+    """What stands round the main part of a page: its name, where its files are, its policy where no server says that, and facts for
+    its scripts."""
+
+    name: str = "Buncocedar"
+    home: str = "./"
+    style: str = "./style.css"
+    icon: str = "./icon.svg"
+    search: str = "./opensearch.xml"
+    scripts: Tuple[str, ...] = ("./http.js", "./page.js")
+    policy: str = ""
+    data: Mapping[str, str] = {}
+
+
+FRAME = Frame()
+
+
 def address(path: str, **fields: Optional[str]) -> str:
     """The address of a page, relative to the one that has it, so that it holds behind another web server too."""
     given = {key: value for key, value in fields.items() if value}
@@ -42,41 +60,37 @@ def address(path: str, **fields: Optional[str]) -> str:
 # --- The frame.
 
 
-def page(title: str, query: str, order: str, *content: str) -> bytes:
+def page(title: str, query: str, order: str, *content: str, frame: Frame = FRAME) -> bytes:
     """A whole page, in UTF-8."""
+    policy = [element("meta", {"http-equiv": "Content-Security-Policy", "content": frame.policy})] if frame.policy else []
+    search = {"rel": "search", "href": frame.search, "type": "application/opensearchdescription+xml", "title": frame.name}
     head = element(
         "head",
         None,
         element("meta", {"charset": "utf-8"}),
+        *policy,
         element("meta", {"name": "viewport", "content": "width=device-width, initial-scale=1"}),
         element("meta", {"name": "color-scheme", "content": "light dark"}),
+        element("meta", {"name": "referrer", "content": "no-referrer"}),
         element("title", None, title),
-        element("link", {"rel": "stylesheet", "href": "./style.css"}),
-        element("link", {"rel": "icon", "href": "./icon.svg", "type": "image/svg+xml"}),
-        element(
-            "link",
-            {
-                "rel": "search",
-                "href": "./opensearch.xml",
-                "type": "application/opensearchdescription+xml",
-                "title": "Buncocedar",
-            },
-        ),
-        element("script", {"src": "./page.js", "defer": ""}),
+        element("link", {"rel": "stylesheet", "href": frame.style}),
+        element("link", {"rel": "icon", "href": frame.icon, "type": "image/svg+xml"}),
+        *([element("link", search)] if frame.search else []),
+        *(element("script", {"src": script, "defer": ""}) for script in frame.scripts),
     )
     main = element("main", {"id": "main", "aria-live": "polite"}, *content)
-    body = element("body", None, form(query, order), main, help_panel())
+    body = element("body", frame.data, form(query, order, frame), main, help_panel())
     return f"<!DOCTYPE html>\n{element('html', {'lang': 'en'}, head, body)}\n".encode()
 
 
-def form(query: str, order: str) -> Markup:
+def form(query: str, order: str, frame: Frame = FRAME) -> Markup:
     choices = [
         element("option", {"value": value, "selected": "" if value == order else None}, text) for value, text in ORDERS
     ]
     return element(
         "form",
-        {"id": "form", "action": "./", "method": "get", "role": "search"},
-        element("a", {"href": "./", "class": "home"}, "Buncocedar"),
+        {"id": "form", "action": frame.home, "method": "get", "role": "search"},
+        element("a", {"href": frame.home, "class": "home"}, frame.name),
         element(
             "input",
             {
@@ -130,14 +144,22 @@ def pieces(found: List[Piece]) -> Markup:
     return join(element("mark", None, piece.text) if piece.is_marked else escaped(piece.text) for piece in found)
 
 
-def answer(row: Answer, query: str) -> Markup:
-    """An answer: its title, which leads to the document, whose it is and of when, or where it stands, and its snippet."""
-    place = f"#L{row.line}" if row.line > 1 else ""
-    link = element("a", {"href": address("document", name=row.name, q=query) + place}, row.title)
+def link_of(row: Answer, query: str) -> str:
+    """The address of the page of a document that was found."""
+    return address("document", name=row.name, q=query) + (f"#L{row.line}" if row.line > 1 else "")
+
+
+def facts_of_answer(row: Answer) -> List[str]:
+    """What is known of a document that was found: of when and whose it is, or where it stands, or its name."""
     where = shown_path(row.path) if row.kind == "folder" else ""
     facts = [text for text in (row.day, row.writer, where) if text]
-    if not facts and row.title != row.name:
-        facts = [row.name]
+    return facts or ([row.name] if row.title != row.name else [])
+
+
+def answer(row: Answer, query: str) -> Markup:
+    """An answer, as `assets/page.js` makes it, too: its title, which leads to the document, what is known of it, and its snippet."""
+    link = element("a", {"href": link_of(row, query)}, row.title)
+    facts = facts_of_answer(row) + ([] if row.score is None else [f"score {row.score:,}"])
     lines = [element("h2", None, link), element("p", {"class": "facts"}, " · ".join(facts))]
     if row.snippet:
         front = f"{row.line}: " if row.kind == "folder" else ""

@@ -22,7 +22,7 @@ from .. import __version__
 from ..document import TEXT_LIMIT
 from ..imports.archives import raw_at
 from . import pages
-from .answers import Fault, Library, NotThere
+from .answers import Answer, Fault, Library, NotThere
 from .questions import Busy
 
 CLIENTS = 32  # at once
@@ -32,6 +32,7 @@ REQUEST_LIMIT = 16_384  # bytes of an address
 FIELDS = 20  # of an address
 ASSETS = {
     "/style.css": "text/css; charset=utf-8",
+    "/http.js": "text/javascript; charset=utf-8",
     "/page.js": "text/javascript; charset=utf-8",
     "/icon.svg": "image/svg+xml",
 }
@@ -156,8 +157,7 @@ class Site:
         found = self.library.answers(asked.field("q").strip(), asked.order(), asked.field("begin"))
         if isinstance(found, Fault):
             return as_json(400, {"fault": found.why, "place": found.place})
-        rows = [{**row._asdict(), "snippet": pieces_of(row.snippet)} for row in found.rows]
-        return as_json(200, {**found._asdict(), "rows": rows})
+        return as_json(200, {**found._asdict(), "rows": [row_of(row, found.query) for row in found.rows]})
 
     def api_document(self, asked: Asked) -> Reply:
         shown = self.library.shown(asked.field("name"), asked.field("q"))
@@ -165,9 +165,10 @@ class Site:
         return as_json(200, {**shown._asdict(), "lines": lines, "linked": [link._asdict() for link in shown.linked]})
 
 
-def pieces_of(snippet: Any) -> Any:
-    """A snippet for programs: its texts, each with whether it was looked for."""
-    return [{"text": piece.text, "marked": piece.is_marked} for piece in snippet]
+def row_of(row: Answer, query: str) -> Dict[str, Any]:
+    """An answer for programs: its snippet is texts, each with whether it was looked for."""
+    snippet = [{"text": piece.text, "marked": piece.is_marked} for piece in row.snippet]
+    return {**row._asdict(), "snippet": snippet, "facts": pages.facts_of_answer(row), "link": pages.link_of(row, query)}
 
 
 def as_json(status: int, value: Any) -> Reply:
