@@ -1,5 +1,5 @@
 -- Laws of a run over a copy of an index, from its bytes and its lines to its replies.
-use Rattle.std.proofs.Common.{◌≡◌, ◌≢◌, ◌⊎◌, inl, inr, ⊎_elim, ℕ, zero, suc, ◌<◌, ◌≤◌, ◌++◌, ◌+◌, List, [], ◌∷◌, drop, Bool, true, false, Option, Some, None, Result, Ok, Err, length, refl, ap, sym, subst, ◌∙◌, arith, length-append, append-nil}
+use Rattle.std.proofs.Common.{◌≡◌, ◌≢◌, ◌⊎◌, inl, inr, ⊎_elim, ℕ, zero, suc, ◌≤◌, ◌++◌, List, [], ◌∷◌, drop, true, false, Some, None, Ok, Err, length, refl, ap, sym, subst, ◌∙◌, arith, length-append, append-nil}
 use Rattle.std.proofs.lemmas.Bool.{cases_lt}
 use Rattle.std.specs.List.{concat}
 use Rattle.alta_console.specs.Lines.{whole, begun, last_piece, lines_of}
@@ -7,9 +7,8 @@ use Rattle.alta_console.specs.Transcript.{given_in, taken_in, has_ended, lines_i
 use Rattle.alta_console.specs.declared.event.Event.{Event}
 use Rattle.alta_console.proofs.RunLaws.{within_all, open_lines, ended_lines}
 use Rattle.alta_disk.specs.Disk.{DiskState}
-use Rattle.alta_embed.specs.Answers.{Answers, FindDamage, IsCaused, IsOpened, Refuses, WantPlace}
+use Rattle.alta_embed.specs.Answers.{Answers, FindDamage, IsCaused, Refuses, WantPlace}
 use Rattle.alta_embed.specs.Refusals.{refusal_for}
-use Rattle.alta_embed.specs.Replies.{replies_to}
 use Rattle.alta_embed.specs.declared.answering.TheConstants.{INDEX_LIMIT, LINES_LIMIT}
 use Rattle.alta_embed.specs.declared.refusal.Refusal.{Refusal}
 use Rattle.alta_embed.specs.declared.refusal.Refusal.TheVariants.{NoMemory, Damaged, NoIndex, Full, TooLong, NoRoom}
@@ -142,8 +141,7 @@ finds_damage lines left copy run n place read fits finds = (
   copy,
   taken_in run,
   (left, taken_front lines left (taken_in run) read),
-  n,
-  lines_among (λ l. FirstFindsDamage copy (drop n l) place) (λ xs ys. reads_on (λ reading. FindsDamage copy reading place) n xs ys) LINES_LIMIT run fits finds,
+  (n, lines_among (λ l. FirstFindsDamage copy (drop n l) place) (λ xs ys. reads_on (λ reading. FindsDamage copy reading place) n xs ys) LINES_LIMIT run fits finds),
 )
 
 wants_place : (within : ℕ) (lines left copy : List ℕ) (run : List Event) (n need gap : ℕ) → Consumes (Some lines) (Some left) (taken_in run) → length (taken_in run) ≤ LINES_LIMIT → within ≡ INDEX_LIMIT
@@ -152,9 +150,11 @@ wants_place within lines left copy run n need gap read fits same wants = (
   copy,
   taken_in run,
   (left, taken_front lines left (taken_in run) read),
-  n,
-  subst (λ (m : ℕ). FirstWantsPlace m copy (drop n (lines_of (taken_in run))) need gap) same
-      (lines_among (λ l. FirstWantsPlace within copy (drop n l) need gap) (λ xs ys. reads_on (λ reading. WantsPlace within copy reading need gap) n xs ys) LINES_LIMIT run fits wants),
+  (
+    n,
+    subst (λ (m : ℕ). FirstWantsPlace m copy (drop n (lines_of (taken_in run))) need gap) same
+        (lines_among (λ l. FirstWantsPlace within copy (drop n l) need gap) (λ xs ys. reads_on (λ reading. WantsPlace within copy reading need gap) n xs ys) LINES_LIMIT run fits wants),
+  ),
 )
 
 -- ---- what a run answers

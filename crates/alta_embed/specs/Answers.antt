@@ -1,5 +1,5 @@
 -- What lines are answered over the bytes of an index, and why they are not.
-use Rattle.std.specs.Prelude.{◌≡◌, ◌≢◌, ◌⊎◌, ◌<◌, ◌≤◌, ◌^◌, ℕ, List, length, drop, Result, Err, IfOk, OnOk, IfErr, OnErr}
+use Rattle.std.specs.Prelude.{◌≡◌, ◌≢◌, ◌⊎◌, ◌<◌, ◌≤◌, ℕ, List, length, drop, Result, Err, IfOk, OnOk, IfErr, OnErr}
 use Rattle.alta_console.specs.Lines.{lines_of}
 use Rattle.alta_console.specs.Replies.{IsPrefix}
 use Rattle.alta_embed.specs.Replies.{replies_to}

@@ -1,9 +1,8 @@
-use Rattle.std.proofs.Common.{◌≡◌, ℕ, ◌∙◌, sym, refl, List, [], Option, Some, None}
+use Rattle.std.proofs.Common.{ℕ, ◌∙◌, sym, refl, List}
 use Rattle.alta_console.specs.Memory.{transcript, input_left}
 use Rattle.alta_console.specs.Transcript.{given_in}
 use Rattle.alta_console.specs.declared.memory.MemoryConsole.{MemoryConsole}
 use Rattle.alta_disk.specs.Memory.{memory_state}
-use Rattle.alta_embed.specs.Refusals.{refusal_for}
 use Rattle.alta_embed.proofs.AnswerLaws.{Served, served_of, answers_done, answers_refused, never_for_room}
 use Rattle.alta_embed.proofs.answering.run.Goals as goal
 
