@@ -4,8 +4,8 @@
 usage: bench/site.py [--program PATH] [--module PATH] --query QUERY [--query QUERY ..] INDEX ..
 
 Of each index the packed bytes that the page loads before it can answer, the time from the page's opening to its first answer, and of each
-query the least of thirty answers with their snippets. Beside that the program, over the index of the site: the time from its start to the
-first answer, and the least of thirty answers to the same lines. Five are asked before. The files come from this machine.
+query the least of a hundred answers with their snippets. Beside that the program, over the index of the site: the time from its start to the
+first answer, and the least of a hundred answers to the same lines. Five are asked before. The files come from this machine.
 """
 
 import argparse
@@ -29,7 +29,7 @@ sys.path[1:1] = [os.path.join(TOP, "client"), os.path.join(TOP, "tests")]
 from browser import Browser, chromium  # noqa: E402
 from buncocedar import Index  # noqa: E402
 
-BEFORE, TURNS = 5, 30
+BEFORE, TURNS = 5, 100
 READY = "document.querySelector('.answer') !== null && shown !== null"
 # Of a query the times of answers, in milliseconds.
 ASKED = """(async () => {

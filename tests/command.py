@@ -110,6 +110,18 @@ class Help(Case):
         )
         self.assertEqual(done.stdout, f"bunco {__version__}\n")
 
+    def test_what_is_loaded(self):
+        """A command begins without what only others need: that takes longer than most answers."""
+        needless = {"asyncio", "ssl", "uuid", "email", "html", "buncocedar.shards.index"}
+        for module, more in (("buncocedar", {"sqlite3"}), ("buncocedar.tools.find", {"buncocedar.imports.engine"}), ("buncocedar.imports.folder", set())):
+            loads = f"import sys, {module}; print(*sys.modules)"
+            done = subprocess.run([sys.executable, "-S", "-c", loads], env={**os.environ, "PYTHONPATH": CLIENT}, stdout=subprocess.PIPE, text=True, check=True)
+            self.assertFalse((needless | more) & set(done.stdout.split()), module)
+        from buncocedar import AsyncIndex
+        from buncocedar.shards import ShardedIndex
+
+        self.assertEqual((AsyncIndex.__name__, ShardedIndex.__name__), ("AsyncIndex", "ShardedIndex"))
+
     def test_manual_pages(self):
         for command in COMMANDS:
             page = page_of(command)

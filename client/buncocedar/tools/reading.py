@@ -36,9 +36,12 @@ class Readable:
 
     def __enter__(self):
         if is_for_reading_only(self.path) and not is_served(self.path):
-            folder = self._stack.enter_context(tempfile.TemporaryDirectory(prefix="bunco-"))
-            self._place = os.path.join(folder, COPY)
-            size = private_copy(self.path, self._place, self._patience)
+            # Where no copy can be made, nothing stays of it.
+            with contextlib.ExitStack() as stack:
+                folder = stack.enter_context(tempfile.TemporaryDirectory(prefix="bunco-"))
+                self._place = os.path.join(folder, COPY)
+                size = private_copy(self.path, self._place, self._patience)
+                self._stack = stack.pop_all()
             self._say(f"{self.path} may not be written: a private copy of it is searched, of {size:,} bytes")
         return self
 

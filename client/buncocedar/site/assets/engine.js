@@ -104,7 +104,7 @@ globalThis.engine = {
   failed(address, reason) {
     const said = document.createElement("p");
     said.className = "fault";
-    said.textContent = `The search can't be had here: ${reason.message}`;
+    said.textContent = `The search can't be had here: ${reason.message}. It may help to load the page again.`;
     document.getElementById("main").replaceChildren(said);
   },
 };
