@@ -75,9 +75,9 @@ def build(folder, room):
     """Proves the library by the kit in this folder, and makes `libalta_embed.a` and `module.bc` of it in the folder `room`."""
     rtlib = loaded(f"{folder}/bin/rtlib.py")
     crate = next(it for it in rtlib.crates_below(TOP) if it.name == NAME)
-    missing = [it.name for it in crate.below() if not os.path.exists(os.path.join(it.folder, "out", "rlib", "stamp"))]
+    missing = [it.name for it in crate.below() if not it.is_built()]
     if missing:
-        raise Fault(f"the crates {', '.join(missing)} are not proved here: ./alta --prove proves them")
+        raise Fault(f"{', '.join(missing)} are not proved here as they are: ./alta --prove proves them")
     put_toolchain(f"{room}/toolchain", folder, CLANG.format(module=f"{room}/module.bc"))
     with contextlib.redirect_stdout(sys.stderr):
         words = crate.words(["--jobs", "2"])

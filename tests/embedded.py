@@ -21,7 +21,7 @@ from demo import lines_of
 from model.answers import spelled
 from support import TOP, run_tests
 
-from buncocedar import BadLine, Damaged, NoIndex, OutOfMemory, QueryFault
+from buncocedar import BadLine, Damaged, NoIndex, QueryFault
 from buncocedar.embedded import EmbeddedIndex, default_library
 
 PROGRAM = None
@@ -160,7 +160,6 @@ class Embedded(unittest.TestCase):
         words = [sys.executable, "-c", script, self.path]
         done = subprocess.run(words, env=dict(os.environ, PYTHONPATH=os.path.join(TOP, "client")), capture_output=True, text=True)
         self.assertEqual((done.stdout, done.stderr), ("none\n", ""))
-        self.assertTrue(issubclass(OutOfMemory, Exception))
 
     def test_threads(self):
         wanted, found = self.index.answer(b"count even\nstats\n"), []
