@@ -1,7 +1,7 @@
 #!/usr/bin/env python3
 """Asks the same questions of mail of notmuch and of an index, and says what each finds of what is right.
 
-usage: bench/questions.py [--messages N] [--seed S] [--program PATH]
+usage: bench/questions.py [--messages N] [--seed S] [--mail FOLDER] [--program PATH]
 
 The mail is made from the seed: a Maildir with folders, in which each question has answers that are known from the making.
 notmuch is Debian's (apt-get install notmuch). Printed is a line for each question: how many messages are right, how many each
@@ -24,7 +24,7 @@ TOP = os.path.dirname(os.path.dirname(os.path.abspath(__file__)))
 sys.path.insert(0, os.path.join(TOP, "client"))
 
 from buncocedar import Index  # noqa: E402
-from buncocedar.imports.fields import thread_of, with_names  # noqa: E402
+from buncocedar.imports.fields import thread_word  # noqa: E402
 from buncocedar.imports.stamps import name_of  # noqa: E402
 
 PEOPLE = [
@@ -188,7 +188,7 @@ def questions(known):
         Question("unread", "tag:unread", "is:unread", lambda letter: letter.is_unread),
         Question("flagged", "tag:flagged", "is:flagged", lambda letter: letter.is_flagged),
         Question("in a folder", "folder:.Lists", "folder:lists", lambda letter: letter.folder == ".Lists"),
-        Question("a thread", f"thread:{{id:{thread}}}", f"thread:{thread_of([], thread.encode())}", lambda letter: letter.thread == thread),
+        Question("a thread", f"thread:{{id:{thread}}}", f"thread:{thread_word(thread.encode())}", lambda letter: letter.thread == thread),
         Question("an id of more than 64 characters", f"id:{long_id}", f"id:{long_id}", lambda letter: letter.id == long_id),
         Question("a phrase", '"the red fox jumps"', '"the red fox jumps"', has("the red fox jumps")),
         Question("two words near", "fox NEAR/4 red", "fox NEAR/4 red", lambda letter: has("the red fox jumps")(letter) or has("fox of the deep red")(letter)),
@@ -234,21 +234,22 @@ class Bunco:
         self.ids = {name_of(letter.id): letter.id for letter in known}
 
     def found(self, query):
-        return {self.ids.get(name, name) for _, name in self.index.search(with_names(query))}
+        return {self.ids.get(name, name) for _, name in self.index.search(query)}
 
 
 def main():
     parser = argparse.ArgumentParser(description=__doc__, formatter_class=argparse.RawDescriptionHelpFormatter)
     parser.add_argument("--messages", type=int, default=3_000)
     parser.add_argument("--seed", type=int, default=1)
+    parser.add_argument("--mail", metavar="FOLDER", help="where the mail is made; what such a run has made there is used again")
     parser.add_argument("--program")
     options = parser.parse_args()
     if shutil.which("notmuch") is None:
         sys.exit("questions: notmuch is missing (Debian: apt-get install notmuch)")
     with tempfile.TemporaryDirectory() as place:
-        top = os.path.join(place, "Mail")
+        top = options.mail or os.path.join(place, "Mail")
         known = list(letters(options.messages, random.Random(options.seed)))
-        for number, letter in enumerate(known):
+        for number, letter in enumerate([] if os.path.exists(top) else known):
             put(top, number, letter)
         notmuch, bunco = Notmuch(top, place), Bunco(top, place, options.program, known)
         print(f"{'question':34} {'right':>6} {'notmuch':>8} {'right':>6} {'bunco':>6} {'right':>6} {'both':>6}")

@@ -16,6 +16,7 @@ import os
 import pathlib
 import pickle
 import resource
+import shutil
 import signal
 import subprocess
 import sys
@@ -34,6 +35,7 @@ import buncocedar
 import fake
 from buncocedar import Index, beside, errors, holders, making, texts
 from buncocedar.exchange import LINES_UNDER_WAY
+from buncocedar.imports.stamps import name_of
 
 FAKE = fake.installed()
 PROGRAM = None
@@ -168,6 +170,18 @@ class Calls(Case):
         # What was answered stands in the file.
         with self.fake() as index:
             self.assertEqual(index.stats().documents, 1)
+
+    def test_ids(self):
+        """A query's `id:` goes out as the name of that message, in each call that takes one; a line from elsewhere goes as it is."""
+        with self.fake() as index:
+            index.add("a", "", f"name:a@x name:{name_of('b' * 90 + '@x')} id:c")
+            for query, found in (("id:a@x", 1), (f"id:<{'b' * 90}@x> id:a@x", 1), ("id:c", 0), ('"id:c"', 0)):
+                self.assertEqual(index.count(query), found, query)
+                self.assertEqual(len(list(index.search(query))), found)
+                self.assertEqual(index.top(query, 1).found, found)
+                self.assertEqual(len(list(index.cursor(query))), found)
+            self.assertEqual(index.answer(b"count id:c"), ["found 1"])
+            self.assertEqual(index.answer(b"count id:a@x"), ["found 0"])
 
     def test_replacing(self):
         with self.fake() as index:
@@ -463,6 +477,36 @@ class Calls(Case):
                     index.add("b", "", "")
         self.assertEqual(told.getvalue().count("fake: "), 3002)
         self.assertNotIn("alta: full", told.getvalue())
+
+
+class Types(unittest.TestCase):
+    CALLER = """
+from buncocedar import Ended, Index, QueryFault, Scored
+
+def asked(index: Index) -> None:
+    count: int = index.send_count("x").result()
+    best: list[Scored] = index.send_top("x", 3).result().answers
+    try:
+        index.stats()
+    except QueryFault as fault:
+        reveal_type(fault.place)
+    except Ended as end:
+        reveal_type(end.status)
+    reveal_type(index.send_count("x").result())
+"""
+
+    def test_what_a_caller_is_told(self):
+        """Values of replies, places of faults and statuses have their types, and none is `Any`."""
+        if shutil.which("mypy") is None:
+            self.skipTest("mypy is missing")
+        with tempfile.TemporaryDirectory() as folder:
+            path = os.path.join(folder, "caller.py")
+            with open(path, "w") as file:
+                file.write(self.CALLER)
+            words = ["mypy", "--cache-dir", os.path.join(folder, "cache"), "--follow-imports", "silent", path]
+            done = subprocess.run(words, env={**os.environ, "MYPYPATH": CLIENT}, capture_output=True, text=True, timeout=PATIENCE)
+        self.assertEqual(done.returncode, 0, done.stdout)
+        self.assertEqual((done.stdout.count("Revealed type is"), "Any" in done.stdout), (3, False), done.stdout)
 
 
 class Traps(Case):

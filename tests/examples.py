@@ -31,6 +31,7 @@ RUNS = [
     ("dates.py", [], "value:20240101..20241231\ndiary-2024-01-01\ndiary-2024-02-29\n"),
     ("own_import.py", ["lines.txt"], "lines: 2 documents: 2 added\n"),
     ("own_import.py", ["lines.txt"], "lines: 2 documents: 0 added, 2 unchanged\n"),
+    ("lines.py", [], "added 1\nfound 200\n200 n199\nfound 1\nthe program ended with 0\n"),
     ("shared.py", [], "the other finds [(1, 'note')]\nthe server ended with 0\n"),
 ]
 

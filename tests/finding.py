@@ -26,6 +26,8 @@ import fake
 from buncocedar import Index, InUse
 from buncocedar.imports.stamps import Stamp, Stamps, part_name, stamps_path
 from buncocedar.tools import hints, reading
+from buncocedar.tools.documents import Places
+from buncocedar.tools.rows import whole_documents
 
 FAKE = fake.installed()
 PROGRAM = None
@@ -126,6 +128,18 @@ class Parts(Case):
         self.assertEqual(self.find("fox", "--limit", "3", "--oldest"), "1 long\n2 other1\n4 other2\n... and 1 more\nfound 4\n")
 
 
+    def test_no_row_asks_the_stamps(self):
+        """Which documents are stored in parts is asked once, and not again for each row of an answer."""
+        stamps = Stamps(stamps_path(self.path))
+        stamps.put({"a" * 60: Stamp((1, 2), "0" * 32, "0" * 8), **{f"n{number}": Stamp((number,), "0" * 32, "0" * 8) for number in range(3, 1_000)}})
+        stamps.close()
+        places, asked = Places(self.path), []
+        places.records().base.set_trace_callback(asked.append)
+        rows = [(1, "a" * 60), *((number, f"n{number}") for number in range(3, 1_000)), (1_000, part_name("a" * 60, 2))]
+        self.assertEqual(sum(1 for _ in whole_documents(rows, places)), 998)
+        self.assertLess(len(asked), 3)
+
+
 class Hints(Case):
     def test_operators_of_other_programs(self):
         for query, hint in [
@@ -147,7 +161,7 @@ class Hints(Case):
         self.assertEqual(len(said), 2)
         self.assertIn("from: is no field of a query", said[0])
         self.assertIn("here it is title:", said[1])
-        self.assertEqual(list(hints.field_hints("from:ann", lambda query: asked.append(query) or 3)), [])
+        self.assertEqual(list(hints.field_hints("from:ann id:b@x", lambda query: asked.append(query) or 3)), [])
         self.assertEqual(asked, ['"from:ann"'])
 
     def test_one_spelling(self):

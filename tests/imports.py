@@ -379,6 +379,18 @@ class Folders(Case):
         self.assertNotIn("not seen", said)
         self.assertEqual(len(self.stored()), 5)
 
+    def test_what_is_no_text_any_more(self):
+        """The text of a file that is none now is gone; of one that can't be read nobody knows."""
+        notes = self.notes(3)
+        self.run_script("folder", self.path, notes)
+        self.write("notes/000.txt", b"\0binary")
+        self.write("notes/001.txt", b"\xff\xfe no UTF-8")
+        said = self.run_script("folder", self.path, notes, expect=1)
+        self.assertIn("1 passed over, 1 refused", said)
+        self.assertIn("1 document of earlier runs not seen any more, and still in the index", said)
+        self.run_script("folder", "--prune", self.path, notes, expect=1)
+        self.assertEqual(sorted(self.stored()), ["001.txt", "002.txt"])
+
     def test_what_cannot_be_seen_is_not_gone(self):
         source = stamps.Source("folder", self.place.name)
         text = Text("", "text")
@@ -543,14 +555,20 @@ class Folders(Case):
 
         def kill(makers):
             if len(makers.under_way) == 2:
-                makers.under_way[0][0].process.kill()
+                makers.program.kill()
+
+        def kill_all(makers):
+            if len(makers.under_way) == 2:
+                os.killpg(makers.program.pid, signal.SIGKILL)
 
         alone = made(1)
         self.assertEqual([name for name, _ in alone], [str(number) for number in range(100)])
         self.assertEqual(alone[7], ("7", "no 7"))
         with mock.patch.object(making, "SECONDS_ALONE", -1):
             self.assertEqual(made(2), alone)
-            self.assertEqual(made(2, kill), alone)
+            for ending in (kill, kill_all):
+                self.assertEqual(made(2, ending), alone)
+            self.assertEqual(made(4), alone)
             # What no other process can be given is made here.
             makers = making.Makers(2)
             makers.put(making.Job("a", lambda: Text("", "b"), False, False))
@@ -1174,6 +1192,8 @@ class Find(Case):
         self.assertIn("25 24\r\n24 23\r\n", shown)
         self.assertIn("6 05\r\n... and 5 more\r\nfound 25\r\n", shown)
         self.assertIn("! query 2 Word", self.said)
+        self.typed(b"show\n", b"quit\n")
+        self.assertIn('show N is of document N, or of the one of this name; "show" in quotes is looked for', self.said)
         shown = self.typed(b"help\n", b"show 3\n", b"show 24\n", b"quit\n", words=("--context",))
         self.assertEqual(self.status, 0)
         self.assertIn("show N    prints document N", shown)

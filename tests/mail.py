@@ -18,7 +18,10 @@ from unittest import mock
 from support import run_tests  # isort: skip
 
 from buncocedar import LINE_LIMIT, Index
-from buncocedar.imports import archives, fields, mail, stamps
+from buncocedar.ids import with_names
+from buncocedar.imports import archives, fields, mail, messages, stamps
+from buncocedar.imports.cms import signed_content
+from buncocedar.imports.header import parted
 from buncocedar.imports.inner import inner_words
 from buncocedar.imports.parts import parts_of, spaced
 from buncocedar.imports.stamps import Known, name_of
@@ -30,7 +33,7 @@ PROGRAM = None
 
 class Mail(Case):
     def test_split(self):
-        for archive, messages in [
+        for archive, wanted in [
             (b"", []),
             (b"From a Mon Jan 1 00:00\nA: b\n\nc\n", [b"A: b\n\nc\n"]),
             (b"From a Mon Jan 1 00:00\nA: b\n\nFrom here on\nit is text\n", [b"A: b\n\nFrom here on\nit is text\n"]),
@@ -51,7 +54,7 @@ class Mail(Case):
             (b"From a Mon Jan 1 00:00\n\0broken\nA: b\n", [b"\0broken\nA: b\n"]),
         ]:
             found = list(archives.split(archive.splitlines(True)))
-            self.assertEqual([raw for _, raw in found], messages, archive)
+            self.assertEqual([raw for _, raw in found], wanted, archive)
             for begin, raw in found:
                 self.assertEqual(archive[begin : begin + len(raw)], raw)
 
@@ -60,7 +63,7 @@ class Mail(Case):
         return self.text(head + 2 * line_end + body)
 
     def text(self, raw, **options):
-        return mail.document_of(archives.Entry("", raw), **options).load()
+        return messages.document_of(archives.Entry("", raw), **options).load()
 
     def test_messages(self):
         html = b"Subject: h\nContent-Type: text/html"
@@ -112,6 +115,8 @@ class Mail(Case):
             b"Message-ID: <a" + b" " * many + b"b>\n\nx",
             b"Subject: x" + b"\n y" * many + b"\n\nx",
             b"Subject: " + b"=?a?q?x" * many + b"\n\nx",
+            b"Subject: " + b"=?utf-8?q?a?= " * (many // 16) + b"\n\nx",
+            b"Content-Type: application/pkcs7-mime\n\n" + b"\x30\x80" * many,
             b"Date: 1 Jan " + b"9" * many + b"\n\nx",
             b"Subject: x\n\nFrom" + b" Mon Jan" * many + b"\n\nx",
             b"Content-Type: text/plain; charset=punycode\n\n" + b"a" * many + b"-" + b"b" * many,
@@ -151,8 +156,8 @@ class Mail(Case):
             (several(b"mixed", html, footer), "fox footer", ""),
             (several(b"mixed", several(b"alternative", plain, html), several(b"alternative", blank, html)), "first fox", ""),
             (several(b"mixed", html, calendar), "fox BEGIN: VCALENDAR", ""),
-            (several(b"mixed", html, inner), "fox inner", "Attachment: b.eml"),
-            (several(b"digest", b"\nSubject: no\n\none", b"\nFrom a\nSubject: no\n\ntwo"), "one two", ""),
+            (several(b"mixed", html, inner), "fox Subject: no inner", "Attachment: b.eml"),
+            (several(b"digest", b"\nSubject: a\n\none", b"\nFrom a\nSubject: b\n\ntwo"), "Subject: a one Subject: b two", ""),
             (b"Content-Type: text/plain; name=report.txt\n\nreport", "report", "Attachment: report.txt"),
             (several(b"mixed", b"no header\n\nat all", footer), "no header at all footer", ""),
             (several(b"mixed", b"\nFrom here\non", b"no", said=b"; type=\"a;b\""), "From here on no", ""),
@@ -173,9 +178,9 @@ class Mail(Case):
         """Without an end to them, as deep as they go, and in as much room as the message has."""
         for levels in (10, 700, 900):
             inner = b"Content-Type: message/rfc822\n\n" * levels
-            self.assertIn("fox", mail.Message(b"Subject: deep\n" + inner + b"Subject: x\n\nfox").text().body.split(), levels)
+            self.assertIn("fox", messages.Message(b"Subject: deep\n" + inner + b"Subject: x\n\nfox").text().body.split(), levels)
         deep = b"".join(b"Content-Type: multipart/mixed; boundary=b%d\n\n--b%d\n\ntext %d\n--b%d\n" % ((level,) * 4) for level in range(5000))
-        text = mail.Message(b"Subject: deep\n" + deep).text()
+        text = messages.Message(b"Subject: deep\n" + deep).text()
         self.assertLessEqual({str(level) for level in range(5000)}, set(text.body.split()))
 
     def test_heads(self):
@@ -241,7 +246,7 @@ class Mail(Case):
         self.assertIn("0 added, 1 changed, 1 unchanged", self.main(mail, self.path, path))
         for noted in (b"X-IMAPbase: 1 7", b"X-IMAP: 1 7", b"X-UIDL: a", b"x-gmail-labels : Inbox", b"X-Evolution: 0a-00", b"X-Label: b"):
             for raw in (b"Subject: x\n\ny", b"Message-ID: <a>\nSubject: x\n\ny"):
-                message, marked = mail.Message(raw), mail.Message(noted + b"\n" + raw)
+                message, marked = messages.Message(raw), messages.Message(noted + b"\n" + raw)
                 self.assertEqual((marked.wanted, marked.stamp), (message.wanted, message.stamp), noted)
         # That it is flagged is one, of the same document.
         self.write("mail.mbox", archive.replace(b"Message-ID: <two@x>\n", b"Message-ID: <two@x>\nX-Status: F\n"))
@@ -299,6 +304,20 @@ class Mail(Case):
             wanted = {b"a", b"b", b"c", b"d", b"e"} - ({b"b"} if new is None else set())
             self.assertLessEqual(wanted, set(found.values()), (old, new, moment))
             self.assertLessEqual(set(found.values()), {b"a", b"b", b"c", b"d", b"e"}, (old, new, moment))
+
+    def test_a_message_that_has_moved_since(self):
+        """A reader of mail has looked at it, and it is shown before the next import has seen that."""
+        self.write("Mail/new/1.a", b"Message-ID: <a@x>\nSubject: s\n\nthe fox\n")
+        self.write("Mail/new/1.ab", b"Message-ID: <ab@x>\nSubject: s\n\nthe dog\n")
+        self.main(mail, self.path, self.at("Mail"))
+        os.makedirs(self.at("Mail/cur"))
+        found = stamps.Records(self.path + ".stamps").found("a@x")
+        os.rename(self.at("Mail/new/1.a"), self.at("Mail/cur/1.a:2,S"))
+        self.assertEqual(documents.text_at(found).body, "the fox\n")
+        os.rename(self.at("Mail/cur/1.a:2,S"), self.at("Mail/cur/1.a:2,RS"))
+        self.assertEqual(documents.text_at(found).body, "the fox\n")
+        os.remove(self.at("Mail/cur/1.a:2,RS"))
+        self.assertEqual(documents.text_at(found), "gone")
 
     def test_what_of_a_maildir_cannot_be_seen(self):
         message = b"Message-ID: <%d@x>\n\ntext\n"
@@ -360,20 +379,20 @@ class Mail(Case):
         self.write("Mail/cur/a:2,S", b"Message-ID: <a@x>\nSubject: s\n\ntext\n")
         self.write("Mail/new/b", b"Message-ID: <a@x>\nSubject: s\n\ntext\n")
         self.main(mail, self.path, path, self.at("Mail"))
-        with mock.patch.object(mail, "Message", side_effect=AssertionError("it is read")):
+        with mock.patch.object(messages, "Message", side_effect=AssertionError("it is read")):
             said = self.main(mail, self.path, path, self.at("Mail"))
         self.assertIn("2 documents: 0 added, 2 unchanged\n", said)
         self.assertIn("2 documents: 0 added, 1 unchanged, 1 repeated\n", said)
         read = []
 
-        class Noted(mail.Message):
+        class Noted(messages.Message):
             def __init__(self, raw):
                 read.append(raw)
                 super().__init__(raw)
 
         with open(path, "ab") as file:
             file.write(b"\n" + LETTER % (b"new", b"new", b"new"))
-        with mock.patch.object(mail, "Message", Noted):
+        with mock.patch.object(messages, "Message", Noted):
             self.assertIn("1 added, 2 unchanged", self.main(mail, self.path, path))
         self.assertEqual([b"text of one" in raw for raw in read], [False] * len(read))
         # What has gone from an archive does not come back with it.
@@ -399,6 +418,26 @@ class Mail(Case):
         self.main(mail, "--prune", self.path, other)
         self.main(mail, self.path, path)
         self.assertEqual(sorted(self.stored()), ["one@x", "three@x", "two@x"])
+
+    def test_a_message_of_two_archives(self):
+        """Gone from the one that was read last, it belongs to the other as long as that is there."""
+        one, two = LETTER % (b"one", b"one", b"one"), LETTER % (b"two", b"two", b"two")
+        first, second = self.write("first.mbox", one + b"\n" + two), self.write("second.mbox", one + b"\n" + two)
+        self.main(mail, self.path, first, second)
+        self.write("second.mbox", two)
+        self.assertNotIn("not seen", self.main(mail, "--prune", self.path, second))
+        self.assertEqual(sorted(self.stored()), ["one@x", "two@x"])
+        self.assertEqual(stamps.Records(self.path + ".stamps").found("one@x").path, first)
+        self.assertIn("0 added, 2 unchanged", self.main(mail, self.path, first))
+        self.write("first.mbox", two)
+        self.assertIn("1 document of earlier runs not seen any more, and deleted", self.main(mail, "--prune", self.path, first))
+        self.assertEqual(sorted(self.stored()), ["two@x"])
+        # An archive that is not there any more has nothing.
+        self.main(mail, self.path, second)
+        os.remove(first)
+        self.write("second.mbox", one)
+        self.assertIn("deleted", self.main(mail, "--prune", self.path, second))
+        self.assertEqual(sorted(self.stored()), ["one@x"])
 
     def test_another_message_of_one_name(self):
         """One that comes before the one that the index has leaves that one in it."""
@@ -431,12 +470,12 @@ class Mail(Case):
             (b"X-Gmail-Labels: Inbox,=?utf-8?q?caf=C3=A9?=", "label:Inbox label:caf\u00e9"),
             (b"Subject: x", ""),
         ]:
-            self.assertEqual(fields.notes_of(mail.parted(head + b"\n\n")[0], ""), notes)
+            self.assertEqual(fields.notes_of(parted(head + b"\n\n")[0], ""), notes)
 
 
 class Fields(Case):
     def terms(self, head, body=b"text"):
-        return mail.document_of(archives.Entry("", head + b"\n\n" + body)).load().terms.split(" ")
+        return messages.document_of(archives.Entry("", head + b"\n\n" + body)).load().terms.split(" ")
 
     def test_fields(self):
         for head, wanted, unwanted in [
@@ -453,7 +492,10 @@ class Fields(Case):
             (b"Content-Type: image/png; name=\"re_port.pdf\"", "attachment:re_port.pdf attachment:re attachment:pdf", ""),
             (b"Content-Type: multipart/signed; boundary=b", "is:signed", "is:encrypted"),
             (b"Content-Type: multipart/encrypted; boundary=b", "is:encrypted", "is:signed"),
-            (b"Content-Type: application/pkcs7-mime; smime-type=signed-data; name=smime.p7m", "is:signed", "is:encrypted"),
+            (b"Content-Type: application/pkcs7-mime; smime-type=signed-data; name=smime.p7m", "is:signed", "is:encrypted is:attached"),
+            (b"Content-Type: application/x-pkcs7-mime; smime-type=enveloped-data; name=smime.p7m", "is:encrypted", "is:signed is:attached"),
+            (b"Content-Type: application/pkcs7-mime; smime-type=certs-only; name=smime.p7c", "", "is:signed is:encrypted"),
+            (b"From: a@" + b"b." * 500, "from:a from:b", "from:b.b"),
         ]:
             words = set(self.terms(b"Subject: x\n" + head))
             self.assertLessEqual(set(wanted.split()), words, head)
@@ -466,7 +508,7 @@ class Fields(Case):
             (f"(id:<{long}> OR id:b@x)", f"(name:{name_of(long)} OR name:b@x )"),
             ('"id:a@x" grid:a NOT id:b', '"id:a@x" grid:a NOT name:b'),
         ]:
-            self.assertEqual(fields.with_names(query), asked)
+            self.assertEqual(with_names(query), asked)
         # A number in an id is no value of its message.
         self.assertFalse([word for word in self.terms(b"Message-ID: <20240131.1@x.org>") if "2024" in word])
 
@@ -486,7 +528,7 @@ class Fields(Case):
             (b"Received: from x by y; Mon, 1 Jan 2024 23:30:00 -0800\nReceived: by z; Sun, 31 Dec 2023 1:00", "Date: 2024-01-01 20240101"),
             (b"Received: by z; Sun, 31 Dec 2023 1:00\nDate: Mon, 1 Jan 2024 23:30:00 -0800", "Date: 2024-01-01 20240101"),
         ]:
-            self.assertEqual(mail.document_of(archives.Entry("", head + b"\n\n")).load().head, line)
+            self.assertEqual(messages.document_of(archives.Entry("", head + b"\n\n")).load().head, line)
 
     def test_texts(self):
         flowed = b"Content-Type: text/plain; format=flowed; delsp=yes\n\n"
@@ -498,7 +540,7 @@ class Fields(Case):
              "SUMMARY: Budget meeting\nLOCATION: Atrium, 2\nORGANIZER: Zoe: Lee zoe@x.org"),
             (card + b"DTSTART;TZID=Europe/Berlin:20240131T090000Z", "DTSTART: 20240131 090000Z"),
         ]:
-            self.assertEqual(mail.document_of(archives.Entry("", b"Subject: x\n" + raw)).load().body.strip(), text)
+            self.assertEqual(messages.document_of(archives.Entry("", b"Subject: x\n" + raw)).load().body.strip(), text)
 
     def test_attached_texts(self):
         """Texts with a file name are texts, and left out where that is asked for."""
@@ -513,6 +555,62 @@ class Fields(Case):
         for words, said, body in (((), "1 added", "alpha beta gamma delta"), (("--no-attachments",), "0 added, 1 changed", "delta"), ((), "0 added, 1 changed", "alpha beta gamma delta")):
             self.assertIn(said, self.main(mail, *words, self.path, path))
             self.assertEqual(self.bodies()["a@x"], body)
+
+    def test_messages_in_messages(self):
+        """Of one that is attached who wrote it to whom is found, and of a report what became of which message."""
+        attached = b"Content-Type: message/rfc822\n\nFrom: =?utf-8?q?Zo=C3=A9?= <zoe@x>\nTo: bob@x\nX-No: never\nSubject: plan\n  B\n\ninner"
+        bounce = (
+            b"Content-Type: message/delivery-status\n\nReporting-MTA: dns; mx.example.org\n\n"
+            b"Final-Recipient: rfc822; lost@example.org\nStatus: 5.1.1\nDiagnostic-Code: smtp; 550 no such\n mailbox\n"
+        )
+        seen = b"Content-Type: message/disposition-notification\n\nFinal-Recipient: rfc822; ann@x\nDisposition: manual-action; displayed\n"
+        for part, text in [
+            (attached, "From: Zo\u00e9 <zoe@x>\nTo: bob@x\nSubject: plan B\ninner"),
+            (bounce, "Reporting-MTA: dns; mx.example.org\n\nFinal-Recipient: rfc822; lost@example.org\nStatus: 5.1.1\n"
+             "Diagnostic-Code: smtp; 550 no such mailbox"),
+            (seen, "Final-Recipient: rfc822; ann@x\nDisposition: manual-action; displayed"),
+        ]:
+            for raw in (part, b"Content-Type: multipart/mixed; boundary=b\n\n--b\n" + part + b"\n--b--\n"):
+                found = messages.Message(b"Subject: x\n" + raw).text()
+                self.assertEqual([line for line in found.body.split("\n") if line], [line for line in text.split("\n") if line], raw)
+                self.assertEqual(found.head, "")
+
+    def test_what_is_signed(self):
+        """The text in an S/MIME part that is signed and not encrypted, however its encoding puts it, and whatever is broken in it."""
+        signed_data, data, enveloped = (bytes.fromhex("06092a864886f70d0107" + end) for end in ("02", "01", "03"))
+        inner = b"Content-Type: text/html; charset=utf-8\r\n\r\n<p>the secret f<b>ox</b> of " + b"A" * 300
+
+        def element(tag, *contents, open_end=False):
+            content = b"".join(contents)
+            if open_end:
+                return bytes([tag, 0x80]) + content + b"\0\0"
+            length = len(content).to_bytes(2, "big")
+            return bytes([tag]) + (bytes([len(content)]) if len(content) < 128 else b"\x82" + length) + content
+
+        def cms(*octets, kind=signed_data, open_end=False):
+            content = [element(0xA0, *octets, open_end=open_end)] if octets else []
+            signed = element(0x30, b"\x02\x01\x01", element(0x31), element(0x30, data, *content, open_end=open_end), element(0x31), open_end=open_end)
+            return element(0x30, kind, element(0xA0, signed, open_end=open_end), open_end=open_end)
+
+        plain = cms(element(4, inner))
+        pieces = cms(element(0x24, element(4, inner[:100]), element(0x24, element(4, inner[100:])), open_end=True), open_end=True)
+        shown = "the secret fox of " + "A" * 300
+        for der, text, kind in [
+            (plain, shown, "is:signed"),
+            (pieces, shown, "is:signed"),
+            (cms(), "", "is:signed"),
+            (cms(element(0x0C, inner)), "", "is:signed"),
+            (cms(element(4, inner), kind=enveloped), "", "is:encrypted"),
+            (b"", "", "is:encrypted"),
+            (b"\x30\x80" * 100_000, "", "is:encrypted"),
+        ]:
+            raw = b"Content-Type: application/pkcs7-mime; name=smime.p7m\nContent-Transfer-Encoding: base64\n\n" + base64.encodebytes(der)
+            found = messages.Message(b"Subject: x\n" + raw).text()
+            self.assertEqual((found.body.strip(), found.terms.split(" ")[-1]), (text, kind))
+        for whole in (plain, pieces):
+            for at in range(len(whole)):
+                self.assertIsNone(signed_content(whole[:at]))
+                signed_content(whole[:at] + bytes([whole[at] ^ 0x91]) + whole[at + 1 :])
 
     def test_composed_letters(self):
         self.assertEqual(spaced("cafe\u0301"), "caf\u00e9")
@@ -541,7 +639,7 @@ class Inner(Case):
     def test_each_part_fits(self):
         """A long text whose words are nearly all kept together."""
         text = " ".join(f"abc.d{chr(97 + number % 26)}x{number}.efg" for number in range(24_000))
-        parts = parts_of("a", mail.Text("title", text), False)
+        parts = parts_of("a", messages.Text("title", text), False)
         self.assertGreater(len(parts), 2)
         for name, title, body in parts:
             self.assertLessEqual(len(f"add {name}\t{title}\t{body}".encode()), LINE_LIMIT)
@@ -571,9 +669,9 @@ class RealProgram(Case):
                 ("list:debian-devel", [1]), ("id:one@x.org", [1]), ("id:20240131." + "a1-" * 40 + "@x.org", [2]), ("value:20240131..20240131", []), ("date:2024-02", [2]),
                 ("value:20240101..20240131", [1]), ("title:autocrlf", [1]), ('"core autocrlf"', [1]), ("autocrlf", [1]),
                 ('"by core.eol here"', [1]), ('"eol here"', [2]), ("core.eol", [1]), ("example", [1, 2]),
-                (f"thread:{fields.thread_of([], b'one@x.org')}", [1, 2]),
+                (f"thread:{fields.thread_word(b'one@x.org')}", [1, 2]),
             ]:
-                self.assertEqual([number for number, _ in index.search(fields.with_names(query))], found, query)
+                self.assertEqual([number for number, _ in index.search(query)], found, query)
 
 
 def take_program(path):

@@ -27,7 +27,7 @@ from support import BUNCO, PATIENCE, run_tests, until  # isort: skip
 
 import buncocedar
 import fake
-from buncocedar import AsyncIndex, Index
+from buncocedar import AsyncIndex, Index, InUse
 from buncocedar.beside import give_rights
 from buncocedar.fileformat import HEAD, level_count
 from buncocedar.server import IDLE_SECONDS, LEVELS_KEPT, LINES_AHEAD, Server, Stopped, batches
@@ -366,6 +366,43 @@ class Ends(Case):
         self.idle(connection)
         self.assertEqual(self.end(server), (0, ""))
 
+    def test_another_socket_at_its_place(self):
+        """A server that ends leaves what another one has put there since."""
+        server = self.serve()
+        os.remove(self.socket)
+        with socket.socket(socket.AF_UNIX) as other:
+            other.bind(self.socket)
+            self.assertEqual(self.end(server), (0, ""))
+            self.assertTrue(os.path.exists(self.socket))
+
+    def test_nobody_waits_without_end(self):
+        """For a server that is stopped, and for one whose queue is full."""
+        server = self.serve()
+        server.send_signal(signal.SIGSTOP)
+        told = []
+        try:
+            with unittest.mock.patch.object(buncocedar.index, "SECONDS_FOR_A_SERVER", 0.1):
+                with self.assertRaisesRegex(InUse, "does not answer"):
+                    Index(self.path, program=self.program, patience=0.7, on_wait=told.append)
+                self.assertEqual(len(told), 1)
+                status = subprocess.run([sys.executable, BUNCO, "status", self.path, "--wait", "0.1"], capture_output=True, text=True, timeout=PATIENCE)
+                self.assertEqual((status.returncode, "Traceback" in status.stderr), (3, False))
+                waiting = []
+                while len(waiting) < 1_000:
+                    waiting.append(socket.socket(socket.AF_UNIX))
+                    self.addCleanup(waiting[-1].close)
+                    waiting[-1].setblocking(False)
+                    try:
+                        waiting[-1].connect(self.socket)
+                    except BlockingIOError:
+                        break
+                with self.assertRaisesRegex(InUse, "takes no client"):
+                    Index(self.path, program=self.program, patience=0.1)
+        finally:
+            server.send_signal(signal.SIGCONT)
+        with self.index() as index:
+            self.assertEqual(index.count("x"), 0)
+
     def test_what_is_no_end(self):
         # A file that can't be read, and a program that is too old to join levels: the server goes on.
         many = os.path.join(self.folder, "many")
@@ -400,7 +437,7 @@ class Ends(Case):
 
         def accept():
             server._stopped = True
-            return theirs, None
+            return theirs
 
         server.listener.accept = accept
         with unittest.mock.patch.object(threading.Thread, "start", side_effect=RuntimeError):

@@ -244,6 +244,15 @@ class Pages(Case):
         self.assertIn("  red AND\n         ^", self.text("/?q=red+AND", 400))
         self.assertIn("<mark>red fox</mark>", self.ask("/?q=%22red+fox%22"))
 
+    def test_ids(self):
+        if PROGRAM is FAKE:
+            self.skipTest("the fake program knows no names")
+        self.bunco("mail", self.path, self.write("mail.mbox", MAIL.replace("second@x", f"{'2' * 90}@x")))
+        self.site()
+        page = self.ask(f"/?q=id:%3C{'2' * 90}@x%3E")
+        self.assertIn('<p class="count">1 document</p>', page)
+        self.assertIn("Re: The red fox", page)
+
     def test_pages_of_answers(self):
         self.many(45)
         self.site()

@@ -11,7 +11,10 @@ program has; `send_add`, `send_delete` and `add_all` keep many lines under way a
 and its standard library.
 """
 
-from .asynchronous import AsyncCursor, AsyncIndex
+from __future__ import annotations
+
+from typing import TYPE_CHECKING, Any
+
 from .cursors import Cursor
 from .errors import (
     BadLine,
@@ -51,6 +54,9 @@ from .links import default_program, server_path
 from .replies import MOST_BEST, Added, Dumped, Page, Reply, Scored, Skipped, Stats, Top
 from .texts import marked, name_ok
 from .wording import phrase, words
+
+if TYPE_CHECKING:
+    from .asynchronous import AsyncCursor, AsyncIndex
 
 __version__ = "0.2.0"
 __all__ = [
@@ -107,3 +113,12 @@ __all__ = [
     "value_range",
     "words",
 ]
+
+
+def __getattr__(name: str) -> Any:
+    """Reads `AsyncIndex` and `AsyncCursor` when they are asked for: asyncio takes a third of what all others take together."""
+    if name in ("AsyncCursor", "AsyncIndex"):
+        from . import asynchronous
+
+        return getattr(asynchronous, name)
+    raise AttributeError(f"module {__name__!r} has no attribute {name!r}")

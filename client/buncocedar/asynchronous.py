@@ -134,9 +134,11 @@ class AsyncIndex:
 
     @classmethod
     async def connect(cls, path: Union[str, bytes, os.PathLike]) -> AsyncIndex:
-        """The index at a path, by the server that listens there. Raises `ServerEnded` where none does."""
+        """The index at a path, by the server that listens there. Raises `ServerEnded` where none does, and `InUse` where it takes no
+        client for ten seconds.
+        """
         place = os.fsdecode(path)
-        link = connected(place)
+        link = await asyncio.to_thread(connected, place)
         if link is None:
             raise ServerEnded(None, "no server of the index listens: bunco serve starts one", place)
         exchange = _Exchange(place)

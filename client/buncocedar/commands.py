@@ -41,7 +41,7 @@ class Commands(Queries):
         """Deletes the document of this name and answers its number. Raises `BadName` and `NoSuchDocument`."""
         return self.send_delete(name).result()
 
-    def send_add(self, name: str, title: str, body: str, cut: bool = False) -> Reply:
+    def send_add(self, name: str, title: str, body: str, cut: bool = False) -> Reply[Added]:
         """Sends what `add` sends, and answers its `Reply`: at once, or when half of 64 that are under way have come.
 
         While the program has others to do, what is sent goes to it together: once 64 wait or 64 kB, once a call of this index
@@ -58,7 +58,7 @@ class Commands(Queries):
 
         return self._exchange.send(line, f"add {name}", ADDED, made)
 
-    def send_delete(self, name: str) -> Reply:
+    def send_delete(self, name: str) -> Reply[int]:
         """Sends what `delete` sends, as `send_add` does, and answers its `Reply`."""
         if not name_ok(name):
             raise BadName("! bad name", ascii(name[:80]))
@@ -129,7 +129,7 @@ class Commands(Queries):
         else:
             yield from reply.each_line()
 
-    def send_line(self, line: bytes) -> Reply:
+    def send_line(self, line: bytes) -> Reply[str]:
         """Sends what `answer` sends, an `add` and a `delete` as `send_add` does, and answers its `Reply`.
 
         Raises the `Refused` of a line that is not sent.

@@ -29,7 +29,7 @@ class Cursor:
         """The next `Page`, of at most so many rows, 1 to 1,000,000. Raises `NoSuchCursor` where it was closed."""
         return self.send_page(count).result()
 
-    def send_page(self, count: int) -> Reply:
+    def send_page(self, count: int) -> Reply[Page]:
         """Sends what `page` sends, and answers its `Reply`: its `result` is the `Page`."""
         line = f"fetch {self.number} {whole(count, 'count')}"
         return self._exchange.send(line.encode(), line, PAGE_END, lambda last, rows: Page(list(rows), last[0] == "more"), ROWS)
@@ -51,7 +51,7 @@ class Cursor:
         """Gives the cursor back."""
         self.send_close().result()
 
-    def send_close(self) -> Reply:
+    def send_close(self) -> Reply[None]:
         """Sends what `close` sends, and answers its `Reply`."""
         line = f"close {self.number}"
         return self._exchange.send(line.encode(), line, CLOSED, nothing)

@@ -109,7 +109,7 @@ CAUSES = {
 class QueryFault(Refused):
     """A query that cannot be read: `query` its text, `place` the byte of its first fault, `cause` the cause's word."""
 
-    def __init__(self, query, place, cause):
+    def __init__(self, query: str, place: int, cause: str) -> None:
         super().__init__(f"! query {place} {cause}", f"{CAUSES.get(cause, cause)}\n{marked(query, place)}")
         self.query = query
         self.place = place
@@ -143,7 +143,7 @@ class Ended(Error):
     advice = ""
     stored = "what was answered is stored"
 
-    def __init__(self, status, line="", path=None, opened=True):
+    def __init__(self, status: Optional[int], line: str = "", path: Optional[str] = None, opened: bool = True) -> None:
         said = line or (f"ended by signal {_signal_name(-status)}" if status and status < 0 else "ended without a word")
         place = "" if path is None else f"{path}: "
         hints = "; ".join(filter(None, (self.hint(path), self.stored if opened else "")))

@@ -95,12 +95,25 @@ class Waiting:
     def is_over(self):
         """Waits a moment, and tells whether that was the last one."""
         waited = time.monotonic() - self.begun
-        if self.on_wait is not None and waited >= SECONDS_OF_SILENCE:
-            self.on_wait(str(in_use(self.path)))
-            self.on_wait = None
+        if waited >= SECONDS_OF_SILENCE:
+            self.tell()
         if waited < self.patience:
             time.sleep(0.02)
         return waited >= self.patience
+
+
+    def tell(self):
+        """Says once who is waited for."""
+        if self.on_wait is not None:
+            self.on_wait(str(in_use(self.path)))
+            self.on_wait = None
+
+    def comes(self, reply, least):
+        """Whether a reply comes in time, which is so many seconds at least."""
+        seconds = max(self.patience, least)
+        if not reply.wait(min(SECONDS_OF_SILENCE, seconds)):
+            self.tell()
+        return reply.wait(max(0, self.begun + seconds - time.monotonic()))
 
 
 def in_use(path):

@@ -16,12 +16,13 @@ import warnings
 from typing import Any, Callable, Optional, Union
 
 from .commands import Commands
-from .errors import DiskFault, Error, NoFile, ServerEnded
+from .errors import DiskFault, Error, InUse, NoFile, ServerEnded
 from .exchange import Exchange
 from .holders import Waiting, in_use, is_locked, turn
 from .links import Program, Service, connected, default_program
 from .making import holds_bytes, make_index
 
+SECONDS_FOR_A_SERVER = 5.0  # at least, that a server has to answer who opens the index by it
 HELD = "another program has the file open"  # that the program says of a lock which it does not get
 
 
@@ -34,7 +35,7 @@ class Index(Commands):
     moment.
 
     Where a server of the index listens (`server.py`), the index is opened by it, and shared with its other clients; with
-    `server=False` it is not.
+    `server=False` it is not. A server that does not answer for so many seconds, or for five where that is more, is `InUse` too.
 
     One thread at a time: a call while another one waits for the program raises `RuntimeError`. So does each call in a process that
     was forked, where `close` and `kill` do nothing: open the index anew there. Raises `Ended` where the index does not open. An
@@ -54,16 +55,16 @@ class Index(Commands):
     ) -> None:
         self.path = os.fsdecode(path)
         waiting = Waiting(self.path, patience, on_wait)
-        while not (server is not False and self._is_served() or self._is_started(create, program or default_program())):
+        while not (server is not False and self._is_served(waiting) or self._is_started(create, program or default_program())):
             if waiting.is_over():
                 raise in_use(self.path)
 
-    def _is_served(self):
+    def _is_served(self, waiting):
         """Opens the index by its server, where one listens and goes on."""
-        service = connected(self.path)
+        service = connected(self.path, max(waiting.patience, SECONDS_FOR_A_SERVER))
         try:
             if service is not None:
-                self._begin(service)
+                self._begin(service, waiting)
         except ServerEnded:
             return False
         return service is not None
@@ -85,11 +86,14 @@ class Index(Commands):
                 return False
             return is_free
 
-    def _begin(self, link):
-        """Takes the program or the server behind this link, once it has answered."""
+    def _begin(self, link, waiting=None):
+        """Takes the program or the server behind this link, once it has answered; a server is waited for as others are."""
         self._exchange = Exchange(self.path, link)
         try:
-            self.stats()
+            reply = self.send_stats()
+            if waiting is not None and not waiting.comes(reply, SECONDS_FOR_A_SERVER):
+                raise InUse(f"{in_use(self.path)}: its server does not answer: it is busy or stopped")
+            reply.result()
             self._exchange.opened = True
         except BaseException:
             self.kill()

@@ -16,7 +16,10 @@ import sysconfig
 import time
 import warnings
 
+from .errors import InUse
+
 LOG = logging.getLogger("buncocedar")  # what a program says that is no reply and no end; without a handler it goes to standard error
+SECONDS_TO_CONNECT = 10.0  # that a server has to take a client
 SECONDS_TO_END = 5  # that a program has to end, once it can read no more lines
 
 
@@ -221,20 +224,40 @@ def server_path(path: str) -> str:
     return os.path.realpath(path) + ".socket"
 
 
-def connected(path):
-    """A link to the server of the index, or None where none listens that its owner or this user has started."""
+def connected(path, seconds=SECONDS_TO_CONNECT):
+    """A link to the server of the index, or None where none listens that its owner or this user has started.
+
+    Raises `InUse` where one listens and takes no client for so many seconds.
+    """
     place = server_path(path)
-    connection = socket.socket(socket.AF_UNIX)
+    until = time.monotonic() + seconds
     try:
         found = os.lstat(place)
-        if stat.S_ISSOCK(found.st_mode) and found.st_uid in (os.geteuid(), os.stat(path).st_uid):
-            connection.connect(place)
-            return Service(connection)
+        if not stat.S_ISSOCK(found.st_mode) or found.st_uid not in (os.geteuid(), os.stat(path).st_uid):
+            return None
+        while (connection := _connection(place)) is None:
+            if time.monotonic() >= until:
+                raise InUse(f"{path}: its server takes no client: too many wait for it already, or it is stopped")
+            time.sleep(0.02)
+        return Service(connection)
     except OSError:
         # None was started, or the path is too long for one, or it was killed and the socket's file is what it left.
-        pass
-    connection.close()
-    return None
+        return None
+
+
+def _connection(place):
+    """A connection to a socket, None where its queue is full: one that waits would wait without end."""
+    connection = socket.socket(socket.AF_UNIX)
+    connection.setblocking(False)
+    try:
+        connection.connect(place)
+        return connection
+    except BlockingIOError:
+        connection.close()
+        return None
+    except OSError:
+        connection.close()
+        raise
 
 
 def let_go(link, out, path, owner):

@@ -1,5 +1,7 @@
 """The queries of an index: each can be sent and waited for by one call, or sent by a call that answers its `Reply` at once.
 
+In a query `id:` stands for the name of the message that has this Message-ID (`ids.py`), of whatever length.
+
 Who asks several indexes sends to all of them before the first reply is waited for, so that they work at the same time.
 """
 
@@ -9,6 +11,7 @@ from typing import Iterable, Iterator, List, Union
 
 from .cursors import Cursor
 from .exchange import Exchange
+from .ids import with_names
 from .lines import LINE_LIMIT, too_long
 from .replies import (
     CURSOR,
@@ -41,7 +44,7 @@ class Queries:
         reply.begin()
         return reply.each()
 
-    def send_search(self, query: str) -> Reply:
+    def send_search(self, query: str) -> Reply[int]:
         """Sends what `search` sends: `each` of its `Reply` gives the rows, and `result` how many they are."""
         return self._ask("search", query, FOUND, first_number, ROWS)
 
@@ -52,7 +55,7 @@ class Queries:
         """
         return self.send_top(query, count).result()
 
-    def send_top(self, query: str, count: int) -> Reply:
+    def send_top(self, query: str, count: int) -> Reply[Top]:
         """Sends what `top` sends: the `result` of its `Reply` is the `Top`."""
         return self._ask(f"top {whole(count, 'count')}", query, FOUND, lambda last, rows: Top(list(rows), int(last[1])), SCORED)
 
@@ -60,7 +63,7 @@ class Queries:
         """How many live documents match. Raises `QueryFault`."""
         return self.send_count(query).result()
 
-    def send_count(self, query: str) -> Reply:
+    def send_count(self, query: str) -> Reply[int]:
         """Sends what `count` sends: the `result` of its `Reply` is the number."""
         return self._ask("count", query, FOUND, first_number)
 
@@ -68,7 +71,7 @@ class Queries:
         """The query's canonical spelling and, in the lines behind it, its plan. Raises `QueryFault`."""
         return self.send_explain(query).result()
 
-    def send_explain(self, query: str) -> Reply:
+    def send_explain(self, query: str) -> Reply[str]:
         """Sends what `explain` sends: the `result` of its `Reply` is the text."""
         # The reply's end shows only by the next reply's begin.
         return self._ask("explain", query, STATS, lambda last, rows: "\n".join(rows), TEXTS, behind=b"stats\n", after_refusal=True)
@@ -77,7 +80,7 @@ class Queries:
         """A `Cursor` over the documents that match now. Raises `QueryFault` and `TooManyCursors`."""
         return self.send_open(query).result()
 
-    def send_open(self, query: str) -> Reply:
+    def send_open(self, query: str) -> Reply[Cursor]:
         """Sends what `cursor` sends: the `result` of its `Reply` is the `Cursor`."""
         return self._ask("open", query, CURSOR, lambda last, rows: Cursor(self, int(last[1])))
 
@@ -85,7 +88,7 @@ class Queries:
         """The `Stats` of the index."""
         return self.send_stats().result()
 
-    def send_stats(self) -> Reply:
+    def send_stats(self) -> Reply[Stats]:
         """Sends what `stats` sends: the `result` of its `Reply` is the `Stats`."""
         return self._exchange.send(b"stats", "stats", STATS, lambda last, rows: Stats(int(last[1]), int(last[2]), int(last[3])))
 
@@ -100,12 +103,12 @@ class Queries:
         reply.begin()
         return reply.each()
 
-    def send_dump(self) -> Reply:
+    def send_dump(self) -> Reply[int]:
         """Sends what `dump` sends: `each` of its `Reply` gives what `dump` gives, and `result` how many documents have a line."""
         return self._exchange.send(b"dump", "dump", DUMP_END, first_number, DUMPED)
 
     def _ask(self, word, query, last, made, lines=None, behind=b"", after_refusal=False):
-        query = one_line(query, "a query")
+        query = with_names(one_line(query, "a query"))
         line = f"{word} {query}".encode()
         if len(line) > LINE_LIMIT:
             raise too_long(len(line), word)

@@ -5,7 +5,7 @@ from __future__ import annotations
 import copy
 import re
 from collections import deque
-from typing import Any, Callable, Iterator, List, NamedTuple, Optional, Tuple
+from typing import Any, Callable, Generic, Iterator, List, NamedTuple, Optional, Tuple, TypeVar
 
 from .errors import Error, ProtocolFault, Refused, refusal_of
 from .texts import NUMBER
@@ -79,6 +79,9 @@ class Skipped(NamedTuple):
     name: str
 
 
+Value = TypeVar("Value")  # of a reply
+
+
 class Lines(NamedTuple):
     """The lines of a reply before its last one: their form, and what is made of one."""
 
@@ -95,8 +98,8 @@ DUMPED = Lines(
 )
 
 
-class Reply:
-    """The reply to a line that was sent. Replies come in the order of their lines.
+class Reply(Generic[Value]):
+    """The reply to a line that was sent, `Reply[int]` where its value is an int. Replies come in the order of their lines.
 
     Its value is made of the match of its last line and of the rows that nobody has taken before that.
     """
@@ -133,7 +136,7 @@ class Reply:
         self._exchange.turn_until(lambda: self.settled or (rows is not None and len(self.rows) >= rows), seconds)
         return self.settled
 
-    def result(self) -> Any:
+    def result(self) -> Value:
         """Waits for the reply and gives its value, or raises its refusal, or the end of the program that came before it."""
         self.wait()
         if not self.answered:

@@ -249,6 +249,7 @@ class Server:
     """The owner of an index, and the clients of a listening socket. `file` is the index's file, open for reading."""
 
     def __init__(self, index, file, listener):
+        """`listener` is a `Listener`."""
         self.index = index
         self.file = file
         self.listener = listener
@@ -309,10 +310,6 @@ class Server:
         """Takes no further client or line, waits a moment for those that have a reply to take, and ends the program."""
         self._stopped = True
         # While the index is still held, since the next one to have it may listen there.
-        with contextlib.suppress(OSError):
-            os.unlink(server_path(self.index.path))
-        with contextlib.suppress(OSError):
-            self.listener.shutdown(socket.SHUT_RDWR)
         self.listener.close()
         sessions = list(self.sessions)
         for session in sessions:
@@ -335,7 +332,7 @@ class Server:
         told = False
         while not self._stopped:
             try:
-                connection, _ = self.listener.accept()
+                connection = self.listener.accept()
             except OSError as error:
                 # There are too many files, or the server ends.
                 if error.errno in (errno.EMFILE, errno.ENFILE) and not told:
@@ -410,26 +407,41 @@ def spooled(reply):
     return file
 
 
-def listening(path):
+class Listener:
     """A socket that listens beside the index, for whoever may write the index's file. Only who has the index may make it."""
-    place = server_path(path)
-    with contextlib.suppress(FileNotFoundError):
-        if not stat.S_ISSOCK(os.lstat(place).st_mode):
-            raise FileExistsError(errno.EEXIST, "no socket, and it stands where the server would listen", place)
-        # A server that was killed has left it.
-        os.unlink(place)
-    listener = socket.socket(socket.AF_UNIX)
-    mask = os.umask(0o177)
-    try:
-        listener.bind(place)
-        give_rights(place, os.stat(path))
-        listener.listen(128)
-    except OSError as error:
-        listener.close()
-        raise OSError(error.errno, f"the server cannot listen: {error.strerror or error}", place) from None
-    finally:
-        os.umask(mask)
-    return listener
+
+    def __init__(self, path):
+        self.place = server_path(path)
+        with contextlib.suppress(FileNotFoundError):
+            if not stat.S_ISSOCK(os.lstat(self.place).st_mode):
+                raise FileExistsError(errno.EEXIST, "no socket, and it stands where the server would listen", self.place)
+            # A server that was killed has left it.
+            os.unlink(self.place)
+        self.socket = socket.socket(socket.AF_UNIX)
+        mask = os.umask(0o177)
+        try:
+            self.socket.bind(self.place)
+            give_rights(self.place, os.stat(path))
+            self.made = os.lstat(self.place)
+            self.socket.listen(128)
+        except OSError as error:
+            self.socket.close()
+            raise OSError(error.errno, f"the server cannot listen: {error.strerror or error}", self.place) from None
+        finally:
+            os.umask(mask)
+
+    def accept(self):
+        """The next client. Raises `OSError` where none can be taken, or the socket is closed."""
+        return self.socket.accept()[0]
+
+    def close(self):
+        """Takes no further client, and takes the socket's file away, where none of another server stands at its place."""
+        with contextlib.suppress(OSError):
+            if os.path.samestat(os.lstat(self.place), self.made):
+                os.unlink(self.place)
+        with contextlib.suppress(OSError):
+            self.socket.shutdown(socket.SHUT_RDWR)
+        self.socket.close()
 
 
 def handle_signals(servers):
@@ -457,7 +469,7 @@ def opened(stack, path, options):
     index = stack.enter_context(Index(path, options.create, patience=options.wait, on_wait=say, server=False))
     # Opened once: later there may be too many files, or another one at the path.
     file = stack.enter_context(open(path, "rb"))
-    server = Server(index, file, listening(path))
+    server = Server(index, file, Listener(path))
     stack.callback(server.close)
     return server
 

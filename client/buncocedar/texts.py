@@ -17,7 +17,9 @@ def name_ok(name: str) -> bool:
 
 def one_line(text: str, what: str = "a text") -> str:
     """The text as it stands in a line: tabs, newlines and carriage returns are spaces, and lone surrogates U+FFFD."""
-    text = _text(text, what).translate({9: " ", 10: " ", 13: " "})
+    text = _text(text, what)
+    for blank in "\t\n\r":
+        text = text.replace(blank, " ")
     try:
         text.encode()
     except UnicodeEncodeError:

@@ -9,6 +9,8 @@
 # A message of a Maildir never changes under its name, and an mbox mostly grows. So what was brought in before is not read
 # again: a file by its size and time, and of an mbox the front up to its last message by its digest.
 
+import contextlib
+import errno
 import functools
 import hashlib
 import itertools
@@ -157,10 +159,10 @@ def folder(top, known):
     met = set()
     for _ in range(LOOKS):
         faults, fresh = {}, set()
-        for identity, below, entries in files(top, faults):
+        for identity, path, below, entries in files(top, faults):
             if identity in met:
                 continue
-            fault = yield from without_fault(entries(os.path.join(top, below), below, known))
+            fault = yield from without_fault(entries(path, below, known))
             if fault is None:
                 fresh.add(identity)
             else:
@@ -184,7 +186,8 @@ def without_fault(entries):
 
 
 def files(top, faults):
-    """The files of a folder that may have messages, each behind what of its path stays as it is read, with the call that reads it.
+    """The files of a folder that may have messages: of each what of its path stays as it is read, its path, that below the folder,
+    and the call that reads it.
 
     What is not looked into goes to the faults, by its path below the folder.
     """
@@ -198,13 +201,15 @@ def files(top, faults):
         faults.update((relative(link, top), NoText("a link to a folder")) for link in links)
         if os.path.basename(os.path.abspath(path)) in MAILDIR:
             is_mail = True
+            parent, front = os.path.dirname(path), beneath(below, "")
             for name in sorted(names):
-                yield (os.path.dirname(path), name.partition(":")[0]), beneath(below, name), message_file
+                yield (parent, name.partition(":")[0]), f"{path}/{name}", front + name, message_file
         elif not is_maildir:
             for name in sorted(names):
-                if may_be_mail(os.path.join(path, name), faults, top):
+                file = os.path.join(path, name)
+                if may_be_mail(file, faults, top):
                     is_mail = True
-                    yield (path, name), beneath(below, name), any_file
+                    yield (path, name), file, beneath(below, name), any_file
     if not is_mail:
         faults.setdefault(".", Unseen("no mail: it has no folder cur or new, and no file of messages"))
 
@@ -247,19 +252,15 @@ def is_mail_head(head):
 
 
 def message_file(path, below, known):
-    """The one message of a file."""
+    """The one message of a file, in a list."""
     place = Place(below).spelled()
     try:
         found = os.stat(path)
     except OSError as error:
-        yield Entry(place, Unseen(error.strerror))
-        return
+        return [Entry(place, Unseen(error.strerror))]
     mark = f"{found.st_size} {found.st_mtime_ns}"
     name = known.name_at(place, mark)
-    if name:
-        yield Entry(place, functools.partial(content_of, path), mark, name)
-    else:
-        yield Entry(place, content_of(path), mark)
+    return [Entry(place, functools.partial(content_of, path), mark, name) if name else Entry(place, content_of(path), mark)]
 
 
 def any_file(path, below, known):
@@ -306,7 +307,28 @@ def stream(path):
 
 
 def raw_at(found):
-    """The bytes of a message that was brought in, where it stands there still."""
-    with opened(found.path) as file:
+    """The bytes of a message that was brought in, where it stands there still: in a Maildir also where it was moved or renamed since."""
+    try:
+        file = opened(found.path)
+    except FileNotFoundError:
+        file = opened(moved_to(found.path))
+    with file:
         file.seek(found.begin or 0)
         return file.read(-1 if found.begin is None else found.length)
+
+
+def moved_to(path):
+    """The path of the message of a Maildir that stood here: it keeps the front of its name, before what its reader notes.
+
+    Raises `FileNotFoundError` where it is in no folder beside.
+    """
+    folder, name = os.path.split(path)
+    if os.path.basename(folder) in MAILDIR:
+        front = name.partition(":")[0]
+        for beside in MAILDIR:
+            place = os.path.join(os.path.dirname(folder), beside)
+            with contextlib.suppress(FileNotFoundError), os.scandir(place) as entries:
+                for entry in entries:
+                    if entry.name.partition(":")[0] == front:
+                        return entry.path
+    raise FileNotFoundError(errno.ENOENT, os.strerror(errno.ENOENT), path)

@@ -25,7 +25,7 @@ import os
 from collections import deque
 from typing import NamedTuple, Optional
 
-from ..document import TEXT_LIMIT
+from ..document import TEXT_LIMIT, NoText
 from ..errors import Error, Refused
 from ..shards import NotAnswered, ShardedIndex
 from ..fileformat import HALF, LEVELS, Unusable, level_count
@@ -226,6 +226,9 @@ class Import:
                 self.summary.leave(job.name)
             elif isinstance(made, Exception):
                 self.summary.note_fault(job.name, document.wanted, made)
+                if isinstance(made, NoText):
+                    # What stands there now is no text, so the text of a run before is gone.
+                    del self.naming.used[job.name]
             else:
                 mark = self.known.marked(document.mark)
                 sent = Sent(job.name, chosen.kind, chosen.stamp, document.place, 0, 0, [], [], made.content, mark, document.notes)
@@ -368,6 +371,8 @@ class Import:
         if self.summary.counts["refused"] or self.sent:
             return
         read = set(self.known.noted)
+        if not read:
+            return
         stale = [place for place, (name, _) in self.known.places.items() if place not in self.repeated and place_of(place).path in read]
         self.stamps.drop_repeats(self.source, stale)
         self.stamps.put_marks(self.source, self.options.form, self.known.noted)
@@ -379,14 +384,19 @@ class Import:
         """
         self.index.settle()
         self.collect()
+        self.stamps.flush()
         kind = self.stamps.sources[self.source].kind
         others = {}
-        for name, stamp in self.stamps.of.items():
+        for name, stamp in list(self.stamps.of.items()):
             if name in self.naming.used or not self.naming.counts_for(name, stamp) or not self.is_of_kind(kind, name, stamp):
                 continue
             archive = self.stamps.archive(stamp)
             if stamp.source in self.sources and archive in self.archives:
-                self.summary.gone.append(name)
+                other = self.naming.elsewhere(name, stamp)
+                if other is None:
+                    self.summary.gone.append(name)
+                else:
+                    self.stamps.put({name: other})
             else:
                 others[archive] = others.get(archive, 0) + 1
         if self.sent or self.summary.unseen or self.summary.gave_nothing():

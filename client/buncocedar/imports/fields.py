@@ -1,8 +1,5 @@
 """Exact words for the fields of a message, as `from:ann` and `list:debian-devel`, and what an archive notes of it."""
 
-# There is no word for a message's id: most ids begin with digits, which would part it into `id` and a number, and each message
-# would be found by them. Its name says the same, so a query's `id:` becomes `name:`.
-
 # By Unicode's word boundaries a colon between letters is inside of a word, so `from:ann` is one. These words stand behind the
 # lines of the header and are shown nowhere. Of an address there are the whole, the words before the `@`, and its domains
 # down to the last but one; of a name its words.
@@ -11,17 +8,16 @@
 
 import re
 
-from .messages import file_name, heading, value, values
-from .stamps import digest, name_of
+from .header import heading
+from .stamps import digest
 
 APART = re.compile(r"[\s<>,;:\"()]+")
 IDS = re.compile(rb"<([^<>\s]+)>")
-ASKED_ID = re.compile(r"(?<![^\s(])id:([^\s()]+)(?=(\)?))")
 FIELD_LIMIT = 65_536  # bytes of a field that are looked at for addresses
+DOMAIN_LIMIT = 255  # characters that a domain has at most (RFC 1035, section 2.3.4)
 ADDRESSES = {"from": b"from", "to": b"to", "cc": b"cc", "bcc": b"bcc"}
 LISTS = (b"list-id", b"list-post", b"x-mailing-list", b"mailing-list", b"x-beenthere")
 LABELS = (b"x-gmail-labels", b"x-mozilla-keys", b"x-keywords", b"x-label")
-PACKED_BY_SMIME = ("pkcs7-mime", "x-pkcs7-mime")
 THREAD_LETTERS = str.maketrans("0123456789", "ghijklmnop")
 
 
@@ -33,7 +29,7 @@ def address_words(text):
     """What an address field is found by: of each address the whole, its words and its domains, and the words of names."""
     for token in APART.split(text):
         front, mark, domain = token.rpartition("@")
-        if not mark:
+        if not mark or len(domain) > DOMAIN_LIMIT:
             yield from words_of(token)
             continue
         yield token
@@ -49,9 +45,9 @@ def domains(domain):
     yield from labels[:-1]
 
 
-def list_words(found):
+def list_words(header):
     """What the mailing list of a message is found by, by the first field that names one."""
-    for data in filter(None, (value(found, name) for name in LISTS)):
+    for data in filter(None, map(header.value, LISTS)):
         text = heading(data[:FIELD_LIMIT])
         inside = re.search("<(?:mailto:)?([^<>]*)>", text)
         name = (inside[1] if inside else text.partition(";")[0]).strip()
@@ -60,66 +56,54 @@ def list_words(found):
     return []
 
 
-def id_of(found):
+def id_of(header):
     """The Message-ID, without its brackets, as bytes; empty where there is none."""
-    return re.sub(rb"^.*<|>.*$", b"", value(found, b"message-id")).strip()
+    return re.sub(rb"^.*<|>.*$", b"", header.value(b"message-id")).strip()
 
 
-def with_names(query):
-    """A query in which each `id:` stands for the name of the message that has this id, outside of quotes."""
-    pieces = query.split('"')
-    pieces[::2] = [ASKED_ID.sub(lambda asked: f"name:{name_of(asked[1].strip('<>'))}{asked[2] and ' '}", piece) for piece in pieces[::2]]
-    return '"'.join(pieces)
-
-
-def thread_of(found, own):
+def thread_of(header, own):
     """A word for the thread of a message: the same for all that answer to one; `own` is its own id."""
-    ids = [*IDS.findall(value(found, b"references")[:FIELD_LIMIT]), *IDS.findall(value(found, b"in-reply-to")[:FIELD_LIMIT]), own]
-    return digest(ids[0], 8).translate(THREAD_LETTERS)
+    ids = [id for name in (b"references", b"in-reply-to") for id in IDS.findall(header.value(name)[:FIELD_LIMIT])]
+    return thread_word([*ids, own][0])
 
 
-def kinds_of(message):
-    """What a message is by its parts: signed, encrypted."""
-    kinds = set()
-    for part in message.walk():
-        kind = part.get_content_type()
-        if kind in ("multipart/signed", "multipart/encrypted"):
-            kinds.add(kind.partition("/")[2])
-        elif part.get_content_subtype() in PACKED_BY_SMIME:
-            kinds.add("signed" if part.get_param("smime-type") == "signed-data" else "encrypted")
-    return sorted(kinds)
+def thread_word(first):
+    """The word for the thread whose first message has this id."""
+    return digest(first, 8).translate(THREAD_LETTERS)
 
 
-def fields_of(found, own, message):
-    """The exact words of a message; `own` is its id as bytes, and where it has none what stands for that."""
+def fields_of(header, own, parts):
+    """The exact words of a message that has these parts, `mime.Part`s; `own` is its id as bytes, and where it has none what stands
+    for that.
+    """
     words = []
     for field, name in ADDRESSES.items():
-        words += [f"{field}:{word}" for data in values(found, name) for word in address_words(heading(data[:FIELD_LIMIT]))]
-    words += [f"list:{word}" for word in list_words(found)]
-    words.append(f"thread:{thread_of(found, own)}")
-    attached = list(filter(None, map(file_name, message.walk())))
-    for name in attached:
+        words += [f"{field}:{word}" for data in header.values(name) for word in address_words(heading(data[:FIELD_LIMIT]))]
+    words += [f"list:{word}" for word in list_words(header)]
+    words.append(f"thread:{thread_of(header, own)}")
+    for name in filter(None, (part.file_name for part in parts)):
         words += [f"attachment:{word}" for word in (name, *words_of(name))]
-    words += [f"is:{kind}" for kind in (*kinds_of(message), *(["attached"] if attached else []))]
+    kinds = {part.secured() for part in parts} - {""}
+    words += [f"is:{kind}" for kind in (*sorted(kinds), *(["attached"] if any(part.is_file() for part in parts) else []))]
     return " ".join(dict.fromkeys(words))
 
 
 # --- What an archive notes.
 
 
-def notes_of(found, place):
+def notes_of(header, place):
     """The words for what an archive notes of a message that stands at this path of it: that it is unread, or flagged; its folder;
     its labels.
     """
-    words = [f"is:{note}" for note in (*notes_of_file(place), *notes_of_header(found))]
-    words += [f"label:{word}" for data in labels(found) for word in words_of(heading(data))]
+    words = [f"is:{note}" for note in (*notes_of_file(place), *notes_of_header(header))]
+    words += [f"label:{word}" for data in labels(header) for word in words_of(heading(data))]
     folder = folder_of(place)
     words += [f"folder:{folder}"] if folder else []
     return " ".join(dict.fromkeys(words))
 
 
-def labels(found):
-    return [data[:FIELD_LIMIT] for name in LABELS for data in values(found, name)]
+def labels(header):
+    return [data[:FIELD_LIMIT] for name in LABELS for data in header.values(name)]
 
 
 def folder_of(path):
@@ -139,14 +123,14 @@ def notes_of_file(path):
     yield from (word for letter, word in (("F", "flagged"), ("R", "replied"), ("D", "draft")) if letter in flags)
 
 
-def notes_of_header(found):
+def notes_of_header(header):
     """What a mail reader has noted in the header: Status and X-Status of mbox files, and Mozilla's number."""
-    status = values(found, b"status")[:1]
+    status = header.values(b"status")[:1]
     if status and b"R" not in status[0]:
         yield "unread"
-    noted = value(found, b"x-status")
+    noted = header.value(b"x-status")
     yield from (word for letter, word in ((b"F", "flagged"), (b"A", "replied"), (b"T", "draft")) if letter in noted)
-    number = value(found, b"x-mozilla-status")
+    number = header.value(b"x-mozilla-status")
     if re.fullmatch(rb"[0-9A-Fa-f]{4}", number):
         bits = int(number, 16)
         yield from (word for is_so, word in ((not bits & 1, "unread"), (bits & 4, "flagged"), (bits & 2, "replied")) if is_so)

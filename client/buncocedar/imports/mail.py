@@ -9,131 +9,16 @@ in .gz, .xz and .bz2 are unpacked. What a mail reader notes besides is no change
 With --show the words are ARCHIVE NAME, and the message of this name is printed; with --raw as it stands in the archive.
 """
 
-# The date is that of the Date field, in the sender's own time: what a reader sees there. A field that is no date is taken as
-# it stands. A message without one has the date at which it was received last.
-#
-# What an archive notes of a message, as that it is unread, is no part of what it is known by: copies in two folders are one
-# message. Where the notes are others, the message is brought in again in its own place.
-
-import datetime
-import email
-import email.utils
 import functools
 import os
-import re
 import sys
 
-from ..document import Document, Text, Unfit
+from ..document import Unfit
 from ..terminal import printable, quiet_end, write
 from . import archives
 from .bringing import BAD_USE, STOPPED, bring_as, parser_of
-from .fields import fields_of, id_of, notes_of
-from .messages import decoded, file_name, heading, parsed, parted, text_of, texts_in, value, values
-from .stamps import Known, Source, digest, name_of, numbered, part_of, place_of, stem_of
-
-NOTED = re.compile(
-    rb"(?i)(Status|X-Status|X-Keywords|X-UID|X-UIDL|X-IMAP|X-IMAPbase|X-Label|X-TUID|X-Gmail-Labels|X-Evolution|X-Evolution-[^:]*|"
-    rb"X-KMail-[^:]*|X-Mozilla-[^:]*|Content-Length|Lines)[ \t]*:"
-)
-# The lines of the header that are searched.
-SHOWN = ("From", "Reply-To", "Sender", "To", "Cc", "Bcc", "List-Id")
-# What goes into a stamp besides the message: another one, and all messages are made anew once.
-FORM = b"fields and attached texts\n"
-WITHOUT_ATTACHED = b"without attached texts\n"
-FORMER = (b"parts and forms\n", b"")
-DATE_LIMIT = 256  # characters of a field that are looked at for a date
-
-
-# --- Messages.
-
-
-def date_of(text):
-    """A message's date as it is written there, with a number that ranges of values find: `2024-01-31 20240131`."""
-    try:
-        # Of a long row of digits a number would take quadratic time.
-        day = datetime.date(*email.utils.parsedate_tz(text[:DATE_LIMIT])[:3]).isoformat()
-    except (TypeError, ValueError, IndexError, OverflowError):
-        return text
-    return f"{day} {day.replace('-', '')}"
-
-
-def sent_at(found):
-    """The field that says when a message was sent, or was received last; none where it has neither."""
-    dates = values(found, b"date")[:1]
-    return dates or [data.rpartition(b";")[2].strip() for data in values(found, b"received")[:1] if b";" in data]
-
-
-def head_of(found, attached):
-    """The lines of a message's header that are searched: who wrote it to whom, when, and what is attached."""
-    lines = [f"{field}: {heading(data)}" for field in SHOWN for data in values(found, field.lower().encode())]
-    lines += [f"Date: {date_of(decoded(data))}" for data in sent_at(found)]
-    lines += [f"Attachment: {name}" for name in attached]
-    return "\n".join(lines)
-
-
-class Message:
-    """A message: its fields, its body, its digest, and the name that it wants. One without Message-ID is named by its digest."""
-
-    def __init__(self, raw):
-        self.found, self.body = parted(raw)
-        kept = b"".join(field for field in self.found if not NOTED.match(field))
-        # The empty line before the next message is there only when there is a next one.
-        self.stamp = digest(kept + b"\n" + self.body.rstrip(b"\r\n"))
-        self.id = id_of(self.found)
-        self.wanted = decoded(self.id) or f"message-{self.stamp}"
-
-    def text(self, attached=True, notes=""):
-        """What is searched and shown of it. `notes` are the words for what its archive notes."""
-        message = parsed(self.found, self.body)
-        try:
-            texts = texts_in(message, attached)
-        except RecursionError:
-            # It is nested too deep: its body is one text.
-            message = email.message_from_bytes(b"\n" + self.body)
-            texts = [message]
-        shown = list(map(text_of, texts))
-        head = head_of(self.found, filter(None, map(file_name, message.walk())))
-        terms = " ".join(filter(None, (fields_of(self.found, self.id or self.wanted.encode(), message), notes)))
-        body = "\n".join(text for text, _ in shown)
-        return Text(heading(value(self.found, b"subject")), body, sum(beyond for _, beyond in shown), head, terms)
-
-
-def text_from(raw, attached, notes):
-    """The text of a message from its bytes: what a document of mail is loaded by."""
-    return Message(raw).text(attached, notes)
-
-
-def raised(fault):
-    """Loads nothing, and says why."""
-    raise fault
-
-
-def form_of(attached):
-    """What goes into the stamps of messages, besides them."""
-    return FORM if attached else FORM + WITHOUT_ATTACHED
-
-
-def document_of(entry, attached=True):
-    """The document of a message, None where it is nothing but blanks."""
-    raw = entry.raw
-    if entry.name:
-        again = entry._replace(raw=None, name="")
-        return Document(entry.name, b"", lambda: document_of(again._replace(raw=raw()), attached), entry.place, known=entry.name)
-    path = place_of(entry.place).path
-    if isinstance(raw, Unfit):
-        return Document(path or ".", entry.place.encode(), functools.partial(raised, raw), entry.place)
-    message = Message(raw)
-    stamp = message.stamp.encode()
-    if message.found:
-        notes = notes_of(message.found, path)
-        load = functools.partial(text_from, raw, attached, notes)
-        former = tuple(form + stamp for form in FORMER)
-        return Document(message.wanted, form_of(attached) + stamp, load, entry.place, former=former, mark=entry.mark, notes=notes, size=len(raw))
-    if raw.strip():
-        where = entry.place.rpartition("@")[2].partition("+")[0] or "0"
-        fault = Unfit(f"it has no header (at byte {where})")
-        return Document(path or "text between messages", raw, functools.partial(raised, fault), entry.place)
-    return None
+from .messages import Message, document_of, form_of
+from .stamps import Known, Source, digest, name_of, numbered, part_of, stem_of
 
 
 def documents(path, known, attached=True):
@@ -147,7 +32,7 @@ def documents(path, known, attached=True):
 def read(found):
     """The text of a message that was brought in, as `bunco find` shows it."""
     message = Message(archives.raw_at(found))
-    if not message.found:
+    if not message.header.fields:
         raise Unfit("it has moved since it was brought in: run bunco mail again")
     return message.text()
 
@@ -160,7 +45,7 @@ def named(archive):
         if isinstance(entry.raw, Unfit):
             continue
         message = Message(entry.raw)
-        if not message.found or message.stamp in met:
+        if not message.header.fields or message.stamp in met:
             continue
         met.add(message.stamp)
         wanted = name_of(message.wanted)

@@ -1,13 +1,14 @@
 """Makes the lines of documents, in several processes where that takes long, and gives them in the documents' order."""
 
-# Reading a message takes Python three times as long as the program takes to store it, so one process would wait for the other.
-# A process of its own is a Python that is begun anew, and no fork: a fork would keep the program's lines and locks open where
-# the import is killed. It ends where nothing comes any more. A few documents are made here, since a process takes some time
-# to begin.
+# Reading a message takes Python ten times as long as the program takes to store it, so one process would wait for the other.
+# They are a Python that is begun anew, and its forks, since the modules take a third of a second to read. No fork is made of
+# this process: it would keep the program's lines and locks open where the import is killed. They end where nothing comes any
+# more. A few documents are made here, since a process takes some time to begin.
 #
 # Each process has one batch at most under way, so that neither side waits for the other to read.
 
 import contextlib
+import importlib
 import os
 import pickle
 import signal
@@ -66,33 +67,55 @@ def processors():
 
 
 class Process:
-    """A Python that makes documents, a batch at a time."""
+    """A Python that makes documents, a batch at a time, by the ends of two pipes."""
 
-    def __init__(self):
-        package = os.path.dirname(os.path.dirname(os.path.dirname(os.path.abspath(__file__))))
-        environment = {**os.environ, "PYTHONPATH": os.pathsep.join(filter(None, (package, os.environ.get("PYTHONPATH"))))}
-        # An interrupt of the terminal is for the import alone.
-        self.process = subprocess.Popen(
-            [sys.executable, "-S", "-c", f"from {__name__} import answer_batches; answer_batches()"],
-            stdin=subprocess.PIPE,
-            stdout=subprocess.PIPE,
-            env=environment,
-            start_new_session=True,
-        )
+    def __init__(self, requests, replies):
+        self.requests = open(requests, "wb")
+        self.replies = open(replies, "rb")
 
-    def send(self, data):
-        self.process.stdin.write(data)
-        self.process.stdin.flush()
+    def send(self, batch):
+        """Gives it a batch, as `pickle` has written it."""
+        pickle.dump(batch, self.requests, pickle.HIGHEST_PROTOCOL)
+        self.requests.flush()
 
     def receive(self):
-        return pickle.load(self.process.stdout)
+        """What it has made of a batch, None where it could not read that."""
+        return pickle.load(self.replies)
 
     def end(self):
-        for stream in (self.process.stdin, self.process.stdout):
+        for stream in (self.requests, self.replies):
             # What it was not given stays here, where it has ended.
             with contextlib.suppress(OSError):
                 stream.close()
-        self.process.wait()
+
+
+def begin_processes(count, job):
+    """A Python that is begun anew, as a `Popen`, and so many processes, which are it and its forks. Raises `OSError`.
+
+    They read the module first by which this job is loaded.
+    """
+    package = os.path.dirname(os.path.dirname(os.path.dirname(os.path.abspath(__file__))))
+    environment = {**os.environ, "PYTHONPATH": os.pathsep.join(filter(None, (package, *sys.path)))}
+    module = getattr(getattr(job.load, "func", job.load), "__module__", __name__)
+    with contextlib.ExitStack() as theirs, contextlib.ExitStack() as ours:
+        pairs, processes = [], []
+        for _ in range(count):
+            (request, requests), (replies, reply) = os.pipe(), os.pipe()
+            for handle in (request, reply):
+                theirs.callback(os.close, handle)
+            processes.append(Process(requests, replies))
+            ours.callback(processes[-1].end)
+            pairs.append((request, reply))
+        # An interrupt of the terminal is for the import alone.
+        program = subprocess.Popen(
+            [sys.executable, "-S", "-c", f"from {__name__} import answer_all; answer_all({pairs}, {module!r})"],
+            stdin=subprocess.DEVNULL,
+            pass_fds=[handle for pair in pairs for handle in pair],
+            env=environment,
+            start_new_session=True,
+        )
+        ours.pop_all()
+    return program, processes
 
 
 class Makers:
@@ -103,6 +126,7 @@ class Makers:
         self.spent = 0.0
         self.batch = []
         self.bytes = 0
+        self.program = None  # the Python that the processes are forks of
         self.idle = []
         self.under_way = deque()  # of (process, batch)
         self.ready_ones = deque()  # of (job, what is made of it)
@@ -137,7 +161,7 @@ class Makers:
             data = pickle.dumps(batch, pickle.HIGHEST_PROTOCOL) if batch else b""
         except UNFIT_FOR_PICKLE:
             data = None
-        if data is None or batch and not self._process_is_ready():
+        if data is None or batch and not self._process_is_ready(batch[0]):
             while self.under_way:
                 self._receive()
             self._make(batch)
@@ -150,13 +174,14 @@ class Makers:
                 pass
             self.under_way.append((process, batch))
 
-    def _process_is_ready(self):
-        """Whether a process has nothing under way, or comes to have nothing, or is begun."""
-        if not self.idle and len(self.under_way) < self.count:
+    def _process_is_ready(self, job):
+        """Whether a process has nothing under way, or comes to have nothing; they are begun for the first job."""
+        if self.program is None:
             try:
-                self.idle.append(Process())
+                self.program, self.idle = begin_processes(self.count, job)
             except OSError:
-                self.count = len(self.under_way)
+                # The system gives no more of them.
+                self.count = 1
         if not self.idle and self.under_way:
             self._receive()
         return bool(self.idle)
@@ -164,30 +189,67 @@ class Makers:
     def _receive(self):
         process, batch = self.under_way.popleft()
         try:
-            self.ready_ones += zip(batch, process.receive())
+            results = process.receive()
             self.idle.append(process)
         except (EOFError, OSError, pickle.UnpicklingError):
             # It was killed, as where memory is short: what it had is made here.
             process.end()
+            results = None
+        if results is None:
             self._make(batch)
+        else:
+            self.ready_ones += zip(batch, results)
 
     def close(self):
         for process in [*self.idle, *(process for process, _ in self.under_way)]:
             process.end()
+        if self.program is not None:
+            self.program.wait()
 
 
-def answer_batches():
-    """The life of a process: batches come by standard input, and what is made of them goes to standard output."""
+# --- In the other processes.
+
+
+def answer_all(pairs, module):
+    """The life of the processes, each with a pair of pipes: this one has the last pair, and a fork each of the others."""
     signal.signal(signal.SIGINT, signal.SIG_IGN)
-    while True:
-        try:
-            batch = pickle.load(sys.stdin.buffer)
-        except EOFError:
-            return
-        try:
-            pickle.dump([made(job) for job in batch], sys.stdout.buffer, pickle.HIGHEST_PROTOCOL)
-            sys.stdout.buffer.flush()
-        except BrokenPipeError:
-            os.dup2(os.open(os.devnull, os.O_WRONLY), sys.stdout.fileno())
-            return
+    with contextlib.suppress(Exception):
+        importlib.import_module(module)
+    while len(pairs) > 1 and not is_forked():
+        close_pair(pairs.pop(0))
+    for pair in pairs[1:]:
+        close_pair(pair)
+    answer_batches(*pairs[0])
+    with contextlib.suppress(ChildProcessError):
+        while True:
+            os.wait()
 
+
+def is_forked():
+    """Goes on as two processes, and tells whether this is the new one. Where the system gives none, this one goes on alone."""
+    try:
+        return os.fork() == 0
+    except OSError:
+        return False
+
+
+def close_pair(pair):
+    for handle in pair:
+        os.close(handle)
+
+
+def answer_batches(request, reply):
+    """Batches come by one pipe, and what is made of them goes into the other."""
+    with open(request, "rb") as requests, open(reply, "wb") as replies, contextlib.suppress(EOFError, BrokenPipeError):
+        while True:
+            pickle.dump(answered(pickle.load(requests)), replies, pickle.HIGHEST_PROTOCOL)
+            replies.flush()
+
+
+def answered(batch):
+    """What is made of a batch, None where it can't be read: a call of it may be of a script, or of a module that is not found here."""
+    try:
+        jobs = pickle.loads(batch)
+    except Exception:
+        return None
+    return [made(job) for job in jobs]

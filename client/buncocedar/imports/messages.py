@@ -1,288 +1,145 @@
-"""A message: its header's fields, and the texts of its parts, as the email package reads them."""
+"""What an import makes of a message: its document, and the text of that."""
 
-# Bytes beyond ASCII in fields are taken as they stand, and encoded words are given to the email package run by run. A field with
-# more than 64 parameters, for which it takes quadratic time, is left out. Where it gives up, the message is one text. A message in
-# another's part is looked into; one that is packed in base64 is not.
+# The date is that of the Date field, in the sender's own time: what a reader sees there. A field that is no date is taken as
+# it stands. A message without one has the date at which it was received last.
+#
+# What an archive notes of a message, as that it is unread, is no part of what it is known by: copies in two folders are one
+# message. Where the notes are others, the message is brought in again in its own place.
+#
+# The import's own process reads the header alone, for the name and the stamp; another one reads the rest.
 
-import codecs
-import email
-import email.errors
-import email.header
-import email.policy
-import html.parser
-import re
+import datetime
+import email.utils
+import functools
 
-from ..document import TEXT_LIMIT
-from .archives import FIELD
+from ..document import Document, Text, Unfit
+from .fields import fields_of, id_of, notes_of
+from .header import decoded, heading, parted
+from .mime import Part, one_text, parsed, texts_in
+from .stamps import digest, place_of
 
-WORD = r"=\?[^?\s]*\?[bBqQ]\?.*?\?="
-WORDS = re.compile(rf"{WORD}(?:\s*{WORD})*")
-# Codecs of charsets that say nothing of the letters beyond ASCII, or whose decoding takes quadratic time.
-UNUSED_CODECS = ("ascii", "idna", "punycode")
-# What the email package raises at parameters that contradict each other, and at charsets of no known form.
-ODD = (LookupError, TypeError, ValueError)
-# Up to its end tag a script or a style has no comments and no declarations.
-RAW = r"(<(script|style)\b[^>]*>.*?(?:</\2|\Z))"
-COMMENT = re.compile(RAW + "|<!--(?:-?>|.*?-->)", re.DOTALL | re.IGNORECASE)
-DECLARATION = re.compile(RAW + "|<[!?][^>]*>", re.DOTALL | re.IGNORECASE)
-HUGE_NUMBER = re.compile("&#[0-9]{20,};?")
-META_CHARSET = re.compile(rb"(?i)<meta[^>]*charset\s*=\s*[\"']?(?!utf-?16|utf-?32)([\w:.-]+)")
-META_LIMIT = 1024  # bytes of an HTML part in which its charset is looked for
-# Tags that may stand inside of a word.
-INLINE = frozenset(
-    "a abbr acronym b bdi bdo big cite code del dfn em font i ins kbd mark nobr q s samp small span strike strong sub sup tt u var "
-    "wbr".split()
+# What mail readers and archives write into a header.
+NOTED = frozenset(
+    b"status x-status x-keywords x-uid x-uidl x-imap x-imapbase x-label x-tuid x-gmail-labels x-evolution content-length lines".split()
 )
-PARAMETERS = 64  # how many a field may have: of more the email package takes quadratic time
-# A line of a calendar or a card: what it is, parameters, and the value. What a parameter names is in quotes or goes up to the next.
-CARD_LINE = re.compile(r"(?P<name>[A-Za-z0-9.-]+)(?P<parameters>(?:;[^:\"\n]*(?:\"[^\"\n]*\"[^:\"\n]*)*)?):(?P<value>.*)")
-COMMON_NAME = re.compile(r"(?i);CN=(?:\"([^\"]*)\"|([^;:\"]*))")
-DAY = re.compile(r"([0-9]{8})T([0-9]{6}Z?)")
+NOTED_FRONTS = (b"x-evolution-", b"x-kmail-", b"x-mozilla-")
+# The lines of the header that are searched.
+SHOWN = ("From", "Reply-To", "Sender", "To", "Cc", "Bcc", "List-Id")
+# What goes into a stamp besides the message: another one, and all messages are made anew once.
+FORM = b"fields, and all texts in a message\n"
+WITHOUT_ATTACHED = b"without attached texts\n"
+FORMER = (b"fields and attached texts\n", b"parts and forms\n", b"")
+DATE_LIMIT = 256  # characters of a field that are looked at for a date
 
 
-# --- Headers.
-
-
-def parted(raw):
-    """The header's fields, each as its lines, and the body. A line of another form is passed over."""
-    end = re.search(rb"^\r?\n", raw, re.MULTILINE)
-    head, body = (raw[: end.start()], raw[end.end() :]) if end else (raw, b"")
-    found = []
-    for line in head.splitlines(True):
-        if line[:1] in (b" ", b"\t"):
-            if found:
-                found[-1].append(line)
-        elif FIELD.match(line):
-            found.append([line])
-    return [b"".join(lines) for lines in found], body
-
-
-def values(found, name):
-    """The values of the fields of this name, each on one line."""
-    return [
-        b" ".join(map(bytes.strip, rest.splitlines())).strip()
-        for front, _, rest in (field.partition(b":") for field in found)
-        if front.strip().lower() == name
-    ]
-
-
-def value(found, name):
-    """The value of the first field of this name, on one line; empty where there is none."""
-    return next(iter(values(found, name)), b"")
-
-
-def codec_of(charset):
-    """The name of the codec of a charset, None where there is none that is used."""
+def date_of(text):
+    """A message's date as it is written there, with a number that ranges of values find: `2024-01-31 20240131`."""
     try:
-        name = codecs.lookup(charset).name if charset else None
-    except (LookupError, ValueError):
-        return None
-    return None if name in UNUSED_CODECS else name
+        # Of a long row of digits a number would take quadratic time.
+        day = datetime.date(*email.utils.parsedate_tz(text[:DATE_LIMIT])[:3]).isoformat()
+    except (TypeError, ValueError, IndexError, OverflowError):
+        return text
+    return f"{day} {day.replace('-', '')}"
 
 
-def decoded(data, charset=None):
-    """The bytes as text: in this charset where it is known, and else UTF-8, or Latin-1 where they are none."""
-    codec = codec_of(charset)
-    if codec:
+def moment_of(raw):
+    """When a message was sent by its Date, in seconds since 1970, None where that is not known."""
+    date = email.utils.parsedate_tz(decoded(parted(raw)[0].value(b"date"))[:DATE_LIMIT])
+    return None if date is None else email.utils.mktime_tz(date)
+
+
+def sent_at(header):
+    """The field that says when a message was sent, or was received last; none where it has neither."""
+    dates = header.values(b"date")[:1]
+    return dates or [data.rpartition(b";")[2].strip() for data in header.values(b"received")[:1] if b";" in data]
+
+
+def head_of(header, attached):
+    """The lines of a message's header that are searched: who wrote it to whom, when, and what is attached."""
+    lines = [f"{field}: {heading(data)}" for field in SHOWN for data in header.values(field.lower().encode())]
+    lines += [f"Date: {date_of(decoded(data))}" for data in sent_at(header)]
+    lines += [f"Attachment: {name}" for name in attached]
+    return "\n".join(lines)
+
+
+def is_noted(name):
+    """Whether the field of this name is no part of a message, but what an archive notes of it."""
+    return name in NOTED or name.startswith(NOTED_FRONTS)
+
+
+class Message:
+    """A message: its header, its body, its digest, and the name that it wants. One without Message-ID is named by its digest."""
+
+    def __init__(self, raw):
+        self.header, self.body = parted(raw)
+        self.id = id_of(self.header)
+
+    @functools.cached_property
+    def stamp(self):
+        kept = b"".join(field for name, field in zip(self.header.names, self.header.fields) if not is_noted(name))
+        # The empty line before the next message is there only when there is a next one.
+        return digest(kept + b"\n" + self.body.rstrip(b"\r\n"))
+
+    @property
+    def wanted(self):
+        return decoded(self.id) or f"message-{self.stamp}"
+
+    def text(self, attached=True, notes=""):
+        """What is searched and shown of it. `notes` are the words for what its archive notes of it."""
+        message = Part(parsed(self.header, self.body))
         try:
-            # Some give halves of characters, which nothing can be encoded with.
-            return re.sub("[\ud800-\udfff]", "\ufffd", data.decode(codec, "replace"))
-        except (LookupError, ValueError):
-            pass
-    try:
-        return data.decode()
-    except UnicodeDecodeError:
-        return data.decode("latin-1")
+            parts, texts = list(message.walk()), texts_in(message, attached)
+        except RecursionError:
+            # It is nested too deep: its body is one text.
+            message = Part(one_text(self.body))
+            parts = texts = [message]
+        shown = [text.text for text in texts]
+        head = head_of(self.header, filter(None, (part.file_name for part in parts)))
+        terms = " ".join(filter(None, (fields_of(self.header, self.id or self.wanted.encode(), parts), notes)))
+        body = "\n".join(text for text, _ in shown)
+        return Text(heading(self.header.value(b"subject")), body, sum(beyond for _, beyond in shown), head, terms)
 
 
-def heading(data):
-    """A header's value as text, with its encoded words decoded.
-
-    Only the words are given to `decode_header`: of what stands between them it would read a backslash as an escape.
-    """
-    text = decoded(data)
-    # Behind the last end of a word each beginning of one would be looked along to the end.
-    end = text.rfind("?=") + 2
-    return WORDS.sub(lambda words: decoded_words(words[0]), text[:end]) + text[end:]
+def text_from(raw, attached, notes):
+    """The text of a message from its bytes: what a document of mail is loaded by."""
+    return Message(raw).text(attached, notes)
 
 
-def decoded_words(words):
-    """The text of encoded words that stand one behind the other; as they stand where they cannot be decoded."""
-    try:
-        pieces = email.header.decode_header(words)
-    except (email.errors.MessageError, ValueError):
-        return words
-    return "".join(piece if isinstance(piece, str) else decoded(piece, charset and charset.partition("*")[0]) for piece, charset in pieces)
+# --- Documents.
 
 
-class Shown(html.parser.HTMLParser):
-    """The text of an HTML part, without scripts and styles, with a blank for each tag that parts words."""
-
-    def __init__(self):
-        super().__init__()
-        self.pieces = []
-        self.hidden = 0
-
-    def handle_starttag(self, tag, attributes):
-        self.handle_tag(tag)
-        self.hidden += tag in ("script", "style")
-
-    def handle_endtag(self, tag):
-        self.handle_tag(tag)
-        self.hidden -= tag in ("script", "style") and self.hidden > 0
-
-    def handle_tag(self, tag):
-        # A word processor has tags of its own, as `o:p` and `st1:place`.
-        if tag not in INLINE and ":" not in tag:
-            self.pieces.append(" ")
-
-    def handle_data(self, data):
-        if not self.hidden:
-            self.pieces.append(data)
+def raised(fault):
+    """Loads nothing, and says why."""
+    raise fault
 
 
-def text_of_html(source):
-    """The text of an HTML part.
-
-    What has no end is text, and the parser is not asked about it, nor about comments, declarations and numbers that are no character:
-    it would take quadratic time, or give up.
-    """
-    source = HUGE_NUMBER.sub("\ufffd", source)
-    end = source.rfind("-->") + 3
-    source = COMMENT.sub(lambda found: found[1] or "", source[:end]) + source[end:]
-    end = source.rfind(">") + 1
-    reader = Shown()
-    reader.feed(DECLARATION.sub(lambda found: found[1] or "", source[:end]))
-    reader.close()
-    reader.handle_data(html.unescape(source[end:]))
-    return "".join(reader.pieces)
+def form_of(attached):
+    """What goes into the stamps of messages, besides them."""
+    return FORM if attached else FORM + WITHOUT_ATTACHED
 
 
-# --- The parts of a message.
+def document_again(entry, attached):
+    """The document of a message that was brought in before, which is read."""
+    return document_of(entry._replace(raw=entry.raw(), name=""), attached)
 
 
-class AsItStands(email.policy.Compat32):
-    """Fields as they stand, where the email package would take bytes beyond ASCII for unknown ones."""
-
-    def header_fetch_parse(self, name, value):
-        return value
-
-
-def parsed(found, body):
-    """A message with its parts, as the email package reads it; as one text where that gives up. A field that it would take long for
-    is left out.
-    """
-    said = [field for field in found if field.count(b";") <= PARAMETERS]
-    try:
-        return email.message_from_bytes(b"".join(said) + b"\n" + body, policy=AsItStands())
-    except (*ODD, RecursionError):
-        return email.message_from_bytes(b"\n" + body)
-
-
-def file_name(part):
-    """The name of a file that is attached, empty where a part is none."""
-    try:
-        name = part.get_filename()
-        return heading(name.encode(errors="surrogateescape")) if name else ""
-    except ODD:
-        return ""
-
-
-def payload_of(part):
-    """The bytes of a part as they were before they were encoded for the way, or as they stand where that is not known."""
-    try:
-        return part.get_payload(decode=True) or b""
-    except ODD:
-        return part.get_payload().encode(errors="surrogateescape")
-
-
-def is_html(part):
-    return part.get_content_subtype().endswith("html")
-
-
-def charset_of(part, data):
-    """The charset that the header of a part names, or, of HTML, the part itself."""
-    try:
-        charset = part.get_content_charset()
-    except ODD:
-        charset = None
-    if codec_of(charset) is None and is_html(part):
-        meta = META_CHARSET.search(data[:META_LIMIT])
-        charset = meta[1].decode() if meta else charset
-    return charset
-
-
-def parameter(part, name):
-    """A parameter of the part's type, in lower case; empty where it has none."""
-    try:
-        value = part.get_param(name, "")
-    except ODD:
-        return ""
-    return value.lower() if isinstance(value, str) else ""
-
-
-def text_of(part):
-    """The text of a part, up to the limit, and how many bytes are beyond."""
-    data = payload_of(part)
-    text = decoded(data[:TEXT_LIMIT], charset_of(part, data))
-    if is_html(part):
-        text = text_of_html(text)
-    elif part.get_content_subtype() in ("calendar", "vcard", "x-vcard", "directory"):
-        text = text_of_card(text)
-    elif parameter(part, "format") == "flowed" and parameter(part, "delsp") == "yes":
-        text = without_line_ends(text)
-    return text, max(0, len(data) - TEXT_LIMIT)
-
-
-def without_line_ends(text):
-    """A flowed text (RFC 3676, `delsp=yes`) with its paragraphs in one line each: a blank before a line's end belongs to the end."""
-    lines = []
-    goes_on = False
-    for line in text.splitlines():
-        content = line.lstrip(">")
-        quoted = line[: len(line) - len(content)]
-        if goes_on and lines[-1][0] == quoted:
-            lines[-1][1].append(content[content.startswith(" ") :])
-        else:
-            lines.append((quoted, [content]))
-        goes_on = content.endswith(" ") and content.strip() != "--"
-        if goes_on:
-            lines[-1][1][-1] = lines[-1][1][-1][:-1]
-    return "\n".join(quoted + "".join(pieces) for quoted, pieces in lines)
-
-
-def text_of_card(text):
-    """The text of a calendar or a card (RFC 5545, RFC 6350): each value behind a blank, so that its first word is one, with the name
-    of whom it is about; a day is a number.
-    """
-    unfolded = re.sub("\r?\n[ \t]", "", text)
-    return "\n".join(map(card_line, unfolded.splitlines()))
-
-
-def card_line(line):
-    match = CARD_LINE.match(line)
-    if match is None:
-        return line
-    names = [quoted or plain for quoted, plain in COMMON_NAME.findall(match["parameters"])]
-    value = re.sub(r"\\([,;\\nN])", lambda escaped: " " if escaped[1] in "nN" else escaped[1], match["value"])
-    value = DAY.sub(r"\1 \2", re.sub("(?i)^mailto:", "", value))
-    return f"{match['name']}: {' '.join([*names, value])}"
-
-
-def is_plain(part):
-    """Whether a part is a plain text that says something."""
-    return part.get_content_type() == "text/plain" and bool(text_of(part)[0].strip())
-
-
-def texts_in(part, attached=True, is_whole=True):
-    """The parts of a part that are shown: each text, of several forms of one text not the HTML where the plain one says something.
-    What should be cut into parts and is not is shown as it stands. Where `attached` is false, a file that is attached is left out;
-    what is all of a message is none.
-    """
-    if not part.is_multipart():
-        is_text = part.get_content_maintype() in ("text", "multipart", "message")
-        return [part] if is_text and (attached or is_whole or not file_name(part)) else []
-    is_message = part.get_content_maintype() == "message"
-    texts = [text for inner in part.get_payload() for text in texts_in(inner, attached, is_message)]
-    has_plain = part.get_content_subtype() == "alternative" and any(map(is_plain, texts))
-    return [text for text in texts if not (has_plain and is_html(text))]
+def document_of(entry, attached=True):
+    """The document of a message, None where it is nothing but blanks."""
+    raw = entry.raw
+    if entry.name:
+        return Document(entry.name, b"", functools.partial(document_again, entry, attached), entry.place, known=entry.name)
+    path = place_of(entry.place).path
+    if isinstance(raw, Unfit):
+        return Document(path or ".", entry.place.encode(), functools.partial(raised, raw), entry.place)
+    message = Message(raw)
+    if message.header.fields:
+        stamp = message.stamp.encode()
+        notes = notes_of(message.header, path)
+        load = functools.partial(text_from, raw, attached, notes)
+        former = tuple(form + stamp for form in FORMER)
+        return Document(message.wanted, form_of(attached) + stamp, load, entry.place, former=former, mark=entry.mark, notes=notes, size=len(raw))
+    if raw.strip():
+        where = entry.place.rpartition("@")[2].partition("+")[0] or "0"
+        fault = Unfit(f"it has no header (at byte {where})")
+        return Document(path or "text between messages", raw, functools.partial(raised, fault), entry.place)
+    return None

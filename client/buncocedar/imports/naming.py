@@ -73,6 +73,8 @@ class Naming:
 
     def counts_for(self, name, stamp):
         """Whether a stamp counts: the index has all its parts."""
+        if len(stamp.numbers) == 1:
+            return self.live.get(name) == stamp.numbers[0]
         return all(self.live.get(part_name(name, part)) == number for part, number in enumerate(stamp.numbers, 1))
 
     def _known_places(self):
@@ -103,6 +105,13 @@ class Naming:
         # It has moved, or two sources have this document: its next change is this source's.
         now = known._replace(source=self.source, place=document.place or known.place, mark=self.known.marked(document.mark))
         return Chosen(name, stamp, "unchanged", now if now != known else None)
+
+    def elsewhere(self, name, stamp):
+        """The stamp of a document that has gone from this source and still stands in another one, to which it then belongs; else None."""
+        for source, place, mark in self.records.elsewhere(name):
+            if source not in self.sources and stands(self.records.sources[source].path, place_of(place)):
+                return stamp._replace(source=source, place=place, mark=mark)
+        return None
 
     def _note_number(self, name, stamp):
         front, mark, number = name.rpartition("~")

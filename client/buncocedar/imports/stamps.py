@@ -62,6 +62,7 @@ CREATE TABLE IF NOT EXISTS stamps (name TEXT PRIMARY KEY, numbers TEXT NOT NULL,
     place TEXT NOT NULL, content TEXT NOT NULL, mark TEXT NOT NULL, notes TEXT NOT NULL) WITHOUT ROWID;
 CREATE INDEX IF NOT EXISTS in_parts ON stamps (name) WHERE instr(numbers, ',') > 0;
 CREATE TABLE IF NOT EXISTS repeats (source TEXT, place TEXT, name TEXT NOT NULL, mark TEXT NOT NULL, PRIMARY KEY (source, place)) WITHOUT ROWID;
+CREATE INDEX IF NOT EXISTS repeated ON repeats (name);
 CREATE TABLE IF NOT EXISTS files (source TEXT, path TEXT, form TEXT NOT NULL, size INTEGER NOT NULL, mtime INTEGER NOT NULL,
     front INTEGER NOT NULL, digest TEXT NOT NULL, before INTEGER NOT NULL, count INTEGER NOT NULL, PRIMARY KEY (source, path)) WITHOUT ROWID;
 """
@@ -70,6 +71,7 @@ COLUMNS = "numbers, stamp, source, place, content, mark, notes"
 _NAME = "[!-~]{1,64}"
 _PART = re.compile("(.+)~p([1-9][0-9]*)", re.DOTALL)
 _NUMBERED = re.compile(".+~([1-9][0-9]*)", re.DOTALL)
+_QUOTED = re.compile(rb"[^A-Za-z0-9_.~/-]")
 _PLACE = re.compile(r"([^@]*)(?:@([0-9]+)\+([0-9]+))?")
 # The lines of an older version.
 _STAMP = re.compile(f"({_NAME}) ([1-9][0-9]*(?:,[1-9][0-9]*)*) ([0-9a-f]{{32}}) ([0-9a-f]{{8}})(?: (?=[!-~])([!-?A-~]*(?:@[0-9]+\\+[0-9]+)?)(?: ([0-9a-f]{{32}}))?)?".encode())
@@ -135,7 +137,12 @@ class Place(NamedTuple):
 
     def spelled(self):
         piece = "" if self.begin is None else f"@{self.begin}+{self.length}"
-        return quote(os.fsencode(self.path)) + piece
+        return spelled_path(self.path) + piece
+
+
+def spelled_path(path):
+    """A path as in URLs: what `quote` of the standard library gives, which looks at each byte where one is no letter."""
+    return _QUOTED.sub(lambda byte: b"%%%02X" % ord(byte[0]), os.fsencode(path)).decode()
 
 
 def place_of(text):
@@ -328,6 +335,12 @@ class Records:
         rows = self.base.execute("SELECT source, place, name, mark FROM repeats")
         return [(place, name, mark) for source, place, name, mark in rows if source in sources]
 
+    def elsewhere(self, name):
+        """Where else a document stands: the source, the place in it, and the mark."""
+        with self._said():
+            rows = self.base.execute("SELECT source, place, mark FROM repeats WHERE name = ?", (name,)).fetchall()
+        return [row for row in rows if row[0] in self.sources]
+
     def marks(self, sources, form):
         """The marks of the files of these sources that were read to their end in this form."""
         rows = self.base.execute("SELECT source, path, size, mtime, front, digest, before, count FROM files WHERE form = ?", (form,))
@@ -385,7 +398,7 @@ class Stamps(Records):
             known = digest(f"{known} {kind} {path}".encode(errors="surrogatepass"), 4)
         if known not in self.sources:
             self.sources[known] = wanted
-            self._write("INSERT INTO sources VALUES (?, ?, ?)", [(known, kind, quote(os.fsencode(path)))])
+            self._write("INSERT INTO sources VALUES (?, ?, ?)", [(known, kind, spelled_path(path))])
         return known
 
     def put(self, stamps):
@@ -403,7 +416,7 @@ class Stamps(Records):
 
     def put_marks(self, source, form, marks):
         """Writes the marks of files that were read to their end."""
-        rows = [(source, quote(os.fsencode(path)), form, *mark) for path, mark in marks.items()]
+        rows = [(source, spelled_path(path), form, *mark) for path, mark in marks.items()]
         self._write("INSERT OR REPLACE INTO files VALUES (?, ?, ?, ?, ?, ?, ?, ?, ?)", rows)
 
     def drop(self, names):
@@ -440,7 +453,7 @@ class Stamps(Records):
 
 def stamp_of(row):
     numbers, *rest = row
-    return Stamp(tuple(map(int, numbers.split(","))), *rest)
+    return Stamp(tuple(map(int, numbers.split(","))) if "," in numbers else (int(numbers),), *rest)
 
 
 def row_of(stamp):

@@ -23,18 +23,33 @@ or a worker of dask.distributed (`buncocedar.dask_shards`). `python3 -m buncoced
 
 from __future__ import annotations
 
+import importlib
 import os
 import re
-from typing import Any, Union
+from typing import TYPE_CHECKING, Any, Union
 
 from ..index import Index
-from .changes import Change
-from .errors import Missing, NotAnswered, NotHere, Stale
-from .folder import Settings, is_folder_of_shards, make, settings_of, shard_path, shards_in
-from .index import ShardedIndex
-from .names import MOST_SHARDS, age, number_of, own_number, shard_of
-from .queries import ShardedCursor
-from .shelf import Shelf
+
+if TYPE_CHECKING:
+    from .changes import Change
+    from .errors import Missing, NotAnswered, NotHere, Stale
+    from .folder import Settings, is_folder_of_shards, make, settings_of, shard_path, shards_in
+    from .index import ShardedIndex
+    from .names import MOST_SHARDS, age, number_of, own_number, shard_of
+    from .queries import ShardedCursor
+    from .shelf import Shelf
+
+# The module of each name. It is loaded when the name is asked for: most who open an index have one file.
+_HOMES = {
+    "changes": ("Change",),
+    "errors": ("Missing", "NotAnswered", "NotHere", "Stale"),
+    "folder": ("Settings", "is_folder_of_shards", "make", "settings_of", "shard_path", "shards_in"),
+    "index": ("ShardedIndex",),
+    "names": ("MOST_SHARDS", "age", "number_of", "own_number", "shard_of"),
+    "queries": ("ShardedCursor",),
+    "shelf": ("Shelf",),
+}
+_HOME_OF = {name: module for module, names in _HOMES.items() for name in names}
 
 __all__ = [
     "Change",
@@ -79,10 +94,21 @@ def open_index(path: Union[str, bytes, os.PathLike], create: bool = False, patie
     open is told by the first call.
     """
     folder = os.fsdecode(path)
-    if os.path.isdir(folder) and is_folder_of_shards(folder):
-        return ShardedIndex.here(folder, program=words.get("program"), patience=max(patience, SECONDS_FOR_AN_ANSWER))
+    if os.path.isdir(folder):
+        from .folder import is_folder_of_shards
+        from .index import ShardedIndex
+
+        if is_folder_of_shards(folder):
+            return ShardedIndex.here(folder, program=words.get("program"), patience=max(patience, SECONDS_FOR_AN_ANSWER))
     if is_address(folder):
         from ..dask_shards import on_workers
 
         return on_workers(folder, patience=max(patience, SECONDS_FOR_AN_ANSWER))
     return Index(path, create=create, patience=patience, **words)
+
+
+def __getattr__(name: str) -> Any:
+    """Loads the module that has this name."""
+    if name not in _HOME_OF:
+        raise AttributeError(f"module {__name__!r} has no attribute {name!r}")
+    return getattr(importlib.import_module(f".{_HOME_OF[name]}", __name__), name)

@@ -6,7 +6,6 @@ import unicodedata
 from typing import Any, NamedTuple, Optional
 
 from ..errors import NotUtf8, Refused, UnknownCommand
-from ..imports.fields import with_names
 from ..replies import MOST_BEST
 from ..terminal import paged
 from .hints import field_hints, operator_hints, spelling_hints
@@ -47,7 +46,7 @@ def say(text):
 def take(index, query, view, limit, top=None):
     """Takes the answer to a query from the index; where `top` is given so many of the best. A fault is told."""
     # Texts are stored with composed letters.
-    query = with_names(unicodedata.normalize("NFC", query))
+    query = unicodedata.normalize("NFC", query)
     try:
         if not is_text(query):
             # As the program says it: in a query of the client these bytes would stand for others.
@@ -64,8 +63,9 @@ def take(index, query, view, limit, top=None):
 
 def taken(index, query, view, limit, top):
     options, places = view.options, view.places
-    if options.count and not places.has_parts():
-        return Answered((), index.count(query))
+    if options.count and not options.thread:
+        whole = whole_documents(index.search(query), places) if places.has_parts() else None
+        return Answered((), index.count(query) if whole is None else sum(1 for _ in whole))
     if top is not None:
         rows = Best(index, query, top, places)
         return Answered(rows, rows.total)
@@ -154,6 +154,9 @@ class Asking:
             return 0
         if len(words) == 2 and words[0] in self.commands:
             return self.document(*words)
+        if len(words) == 1 and words[0] in self.commands:
+            say(f'{words[0]} N is of document N, or of the one of this name; "{words[0]}" in quotes is looked for')
+            return FAULT
         if len(words) > 2 and words[0] == "top" and words[1].isdecimal() and len(words[1]) <= 4 and 1 <= int(words[1]) <= MOST_BEST:
             return self.ask(line.split(None, 2)[2], int(words[1]))
         return self.ask(line, self.top)

@@ -5,18 +5,24 @@
 # written. The index is let go before the editor begins, but at the prompt, which has it as long as it runs.
 
 import contextlib
-import email.utils
+import importlib
 import os
 import re
 import tempfile
 
 from ..document import Text, Unfit
-from ..imports import archives, folder, mail, messages, packages
 from ..imports.packed import is_packed
 from ..imports.stamps import STEM_LIMIT, Records, part_of, stamps_path, stem_of
 from ..terminal import edited
 
-READERS = {"folder": folder.read, "mail": mail.read, "packages": packages.read}
+KINDS = ("folder", "mail", "packages")  # of imports, each a module that reads a document again
+
+
+def read(found):
+    """The text of a document where it was found. Its import is loaded here: what counts answers needs none."""
+    if found.kind not in KINDS:
+        raise Unfit(f"this version knows no bunco {found.kind}")
+    return importlib.import_module(f"..imports.{found.kind}", __package__).read(found)
 
 
 class Places:
@@ -26,17 +32,19 @@ class Places:
         self.path = stamps_path(index)
         self.moved = moved
         self.read = None
+        self.in_parts = frozenset()  # the names of the documents that are stored in parts
         self.long_stems = {}
 
     def records(self):
         if self.read is None:
             self.read = Records(self.path)
-            self.long_stems = {stem_of(name): name for name in self.read.in_parts() if len(name) > STEM_LIMIT}
+            self.in_parts = frozenset(self.read.in_parts())
+            self.long_stems = {stem_of(name): name for name in self.in_parts if len(name) > STEM_LIMIT}
         return self.read
 
     def document(self, name):
         """The name of the document that has this one as a part; any other name is a document's own."""
-        part = part_of(name)
+        part = part_of(name) if "~p" in name else None
         if part is None:
             return name
         records = self.records()
@@ -53,8 +61,8 @@ class Places:
 
     def is_in_parts(self, name):
         """Whether the document of this name is stored in parts."""
-        stamp = self.records().stamp(name)
-        return stamp is not None and len(stamp.numbers) > 1
+        self.records()
+        return name in self.in_parts
 
     def moment(self, name):
         """When a document was written, in seconds since 1970, None where that is not known."""
@@ -68,7 +76,8 @@ class Places:
         return thread_of(text) if isinstance(text, Text) else ""
 
     def has_parts(self):
-        return bool(self.records().in_parts())
+        self.records()
+        return bool(self.in_parts)
 
     def found(self, name):
         return self.records().found(name, self.moved)
@@ -77,7 +86,7 @@ class Places:
 def text_at(found):
     """The text of a document, or in its place why there is none."""
     try:
-        return READERS[found.kind](found)
+        return read(found)
     except FileNotFoundError:
         return "gone"
     except (OSError, Unfit) as fault:
@@ -99,9 +108,9 @@ def moment_at(found):
         if found.kind == "folder":
             return os.stat(found.path).st_mtime
         if found.kind == "mail":
-            fields, _ = messages.parted(archives.raw_at(found))
-            date = email.utils.parsedate_tz(messages.decoded(messages.value(fields, b"date"))[: mail.DATE_LIMIT])
-            return None if date is None else email.utils.mktime_tz(date)
+            from ..imports import archives, messages
+
+            return messages.moment_of(archives.raw_at(found))
     except (OSError, ValueError, OverflowError, TypeError, IndexError):
         pass
     return None

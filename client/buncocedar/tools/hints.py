@@ -7,7 +7,7 @@ from typing import Dict, Iterator, List, Set
 
 OPERATORS = {"and": "AND", "or": "OR", "not": "NOT"}
 SIGNS = {"&&": "AND", "&": "AND", "||": "OR", "|": "OR"}
-FIELDS = ("title", "name", "value")  # of a query
+FIELDS = ("title", "name", "value", "id")  # of a query; the client asks for an id by its name
 # What others call a field, and how that is asked for here.
 ELSEWHERE = {"subject": "title:", "date": "value:20240101..20241231", "body": "a word alone", "text": "a word alone"}
 

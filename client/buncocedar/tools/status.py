@@ -19,7 +19,7 @@ from ..errors import Error
 from ..fileformat import HEAD, Unusable, read_root
 from ..holders import holder
 from ..imports.stamps import Records, stamps_path
-from ..index import Index
+from ..index import SECONDS_FOR_A_SERVER, Index
 from ..links import connected
 from ..shards import Missing, is_address, is_folder_of_shards, open_index, shard_path, shards_in
 
@@ -53,12 +53,16 @@ def of_program(path, patience):
         return index.stats()._asdict()
 
 
-def of_server(path):
-    """What the server of the index says of its clients; nothing where none listens, or an older one."""
-    service = connected(path)
+def of_server(path, patience):
+    """What the server of the index says of its clients; nothing where none listens, or an older one.
+
+    Raises `InUse` or `OSError` where it gives no answer for so many seconds, or for five where that is more.
+    """
+    seconds = max(patience, SECONDS_FOR_A_SERVER)
+    service = connected(path, seconds)
     if service is None:
         return {}
-    service.connection.setblocking(True)
+    service.connection.settimeout(seconds)
     with service.connection as connection, connection.makefile("rwb") as lines:
         lines.write(b"figures\n")
         lines.flush()
@@ -106,12 +110,12 @@ def of_imports(path):
 
 def looks(path, patience):
     """The ways to look at what stands there, each of which answers what it finds."""
-    program, shards = (lambda path, of=of: of(path, patience) for of in (of_program, of_shards))
+    server, program, shards = (lambda path, of=of: of(path, patience) for of in (of_server, of_program, of_shards))
     if is_address(path):
         return shards, of_imports
     if is_folder_of_shards(path):
         return of_files, shards, of_imports
-    return of_file, of_server, program, of_imports
+    return of_file, server, program, of_imports
 
 
 def holders(path):

@@ -11,7 +11,7 @@ from typing import Any, Dict, Iterator, List, NamedTuple, Optional, Tuple
 
 from ..document import Text
 from ..errors import CAUSES, QueryFault, Refused
-from ..imports import archives, messages
+from ..imports import archives, header
 from ..imports.stamps import Found, name_of
 from ..replies import MOST_BEST
 from ..tools.documents import Places, text_at
@@ -168,9 +168,9 @@ def thread_of(text: Text) -> str:
 
 def named_before(raw: bytes) -> List[str]:
     """The Message-IDs that a message says it answers, each once, by its References and In-Reply-To (RFC 5322, section 3.6.4)."""
-    fields, _ = messages.parted(raw)
-    said = b" ".join([*messages.values(fields, b"references"), *messages.values(fields, b"in-reply-to")])
-    return list(dict.fromkeys(messages.decoded(one) for one in IDENTIFIER.findall(said)))[:MOST_LINKED]
+    fields, _ = header.parted(raw)
+    said = b" ".join([*fields.values(b"references"), *fields.values(b"in-reply-to")])
+    return list(dict.fromkeys(header.decoded(one) for one in IDENTIFIER.findall(said)))[:MOST_LINKED]
 
 
 def with_text(bare: Answer, text: Text) -> Answer:
