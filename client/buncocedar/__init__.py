@@ -58,7 +58,7 @@ from .wording import phrase, words
 if TYPE_CHECKING:
     from .asynchronous import AsyncCursor, AsyncIndex
 
-__version__ = "0.2.0"
+__version__ = "0.3.0"
 __all__ = [
     "Added",
     "AsyncCursor",
