@@ -109,11 +109,12 @@ class Waiting:
             self.on_wait = None
 
     def comes(self, reply, least):
-        """Whether a reply comes in time, which is so many seconds at least."""
+        """Whether the reply to a line comes in time, counted from now, which is so many seconds at least."""
         seconds = max(self.patience, least)
-        if not reply.wait(min(SECONDS_OF_SILENCE, seconds)):
-            self.tell()
-        return reply.wait(max(0, self.begun + seconds - time.monotonic()))
+        if reply.wait(min(SECONDS_OF_SILENCE, seconds)):
+            return True
+        self.tell()
+        return reply.wait(max(0, seconds - SECONDS_OF_SILENCE))
 
 
 def in_use(path):

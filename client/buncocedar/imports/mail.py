@@ -29,14 +29,6 @@ def documents(path, known, attached=True):
 # --- Back to a message.
 
 
-def read(found):
-    """The text of a message that was brought in, as `bunco find` shows it."""
-    message = Message(archives.raw_at(found))
-    if not message.header.fields:
-        raise Unfit("it has moved since it was brought in: run bunco mail again")
-    return message.text()
-
-
 def named(archive):
     """The messages of an archive by the names that an import into a new index gives them."""
     used, met = set(), set()

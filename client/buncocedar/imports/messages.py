@@ -13,6 +13,7 @@ import email.utils
 import functools
 
 from ..document import Document, Text, Unfit
+from .archives import raw_at
 from .fields import fields_of, id_of, notes_of, thread_of
 from .header import decoded, heading, parted
 from .mime import Part, one_text, parsed, texts_in
@@ -111,6 +112,14 @@ class Message:
 def text_from(raw, attached, notes):
     """The text of a message from its bytes: what a document of mail is loaded by."""
     return Message(raw).text(attached, notes)
+
+
+def read(found):
+    """The text of a message that was brought in, as `bunco find` shows it."""
+    message = Message(raw_at(found))
+    if not message.header.fields:
+        raise Unfit("it has moved since it was brought in: run bunco mail again")
+    return message.text()
 
 
 # --- Documents.

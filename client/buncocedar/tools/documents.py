@@ -15,14 +15,14 @@ from ..imports.packed import is_packed
 from ..imports.stamps import STEM_LIMIT, Records, part_of, stamps_path, stem_of
 from ..terminal import edited
 
-KINDS = ("folder", "mail", "packages")  # of imports, each a module that reads a document again
+READERS = {"folder": "folder", "mail": "messages", "packages": "packages"}  # of each kind of import the module that reads a document again
 
 
 def read(found):
     """The text of a document where it was found. Its import is loaded here: what counts answers needs none."""
-    if found.kind not in KINDS:
+    if found.kind not in READERS:
         raise Unfit(f"this version knows no bunco {found.kind}")
-    return importlib.import_module(f"..imports.{found.kind}", __package__).read(found)
+    return importlib.import_module(f"..imports.{READERS[found.kind]}", __package__).read(found)
 
 
 class Places:
