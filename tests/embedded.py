@@ -3,7 +3,7 @@
 
 usage: tests/embedded.py --program PATH [TEST ..]
 
-BUNCOCEDAR_LIBRARY names another library than the released one. The C of `embed/` is compiled where there is a C compiler; elsewhere a
+BUNCOCEDAR_LIBRARY names another library than the released one, and BUNCOCEDAR_MODULE another module for pages. The C of `embed/` is compiled where there is a C compiler; elsewhere a
 line says that it was not.
 """
 
@@ -22,7 +22,7 @@ from model.answers import spelled
 from support import TOP, run_tests
 
 from buncocedar import BadLine, Damaged, NoIndex, QueryFault
-from buncocedar.embedded import EmbeddedIndex, default_library
+from buncocedar.embedded import EmbeddedIndex, default_library, released
 
 PROGRAM = None
 DOCUMENTS = 2_000
@@ -191,6 +191,39 @@ class Embedded(unittest.TestCase):
             file.write(self.content[:-1])
         done = subprocess.run([made, other, "stats"], capture_output=True, text=True)
         self.assertEqual((done.returncode, done.stdout, done.stderr[:12]), (2, "", "answer: -6, "))
+
+
+    def test_a_module_without_memory(self):
+        node = shutil.which("node")
+        if node is None:
+            print("embedded: node is missing (Debian: apt-get install nodejs), so the module for pages was not run without memory", file=sys.stderr)
+            return
+        module = os.environ.get("BUNCOCEDAR_MODULE") or released("alta_embed32.wasm")
+        done = subprocess.run([node, "--input-type=module", "-e", WITHOUT_MEMORY, module, self.path], capture_output=True, text=True)
+        self.assertEqual((done.stdout, done.stderr), ("-5\n9 found 20\n", ""))
+
+
+# Takes the memory of a module, and then asks it; gives the memory back, and asks it again.
+WITHOUT_MEMORY = """
+import fs from "fs"
+const [path, index] = process.argv.slice(1)
+const {instance} = await WebAssembly.instantiate(fs.readFileSync(path), {})
+const {memory, malloc, free, alta_embed_answer} = instance.exports
+const put = bytes => {
+  const block = malloc(BigInt(bytes.length))
+  new Uint8Array(memory.buffer).set(bytes, Number(block))
+  return [block, BigInt(bytes.length)]
+}
+const words = [...put(fs.readFileSync(index)), ...put(Buffer.from("count w42\\n")), ...put(new Uint8Array(100)), malloc(8n)]
+const taken = []
+for (let size = 1n << 30n; size >= 1n << 12n; size /= 2n) {
+  for (let block = malloc(size); block; block = malloc(size)) taken.push(block)
+}
+console.log(`${alta_embed_answer(...words)}`)
+for (const block of taken) free(block)
+const many = alta_embed_answer(...words)
+console.log(`${many} ${Buffer.from(memory.buffer, Number(words[4]), Number(many))}`.trim())
+"""
 
 
 def take_program(path):

@@ -1,16 +1,17 @@
 /* The heap of the module for pages, and what else the proved library asks of a C library. It asks nothing of a host.
 
    Before each block stand 16 bytes with the class of its size, so that a block is aligned to 16. Each doubling of sizes has four
-   classes. A block that is freed joins the list of its class, and the next block of that class is taken from there. A list that is
-   empty takes from the end of the memory, which grows. No block is ever cut or joined, so that a call costs the same however many
-   blocks there are, and the memory holds at most what each class once held at the same time. */
+   classes. A block that is freed joins the list of its class, and the next block of that class is taken from there. Where the list is
+   empty, a block comes from the end of the memory, which grows; where that does not grow, it is cut from a greater one that is free.
+   Blocks are not joined again. So a call costs the same however many blocks there are, and the memory holds at most what each class
+   once held at the same time. */
 
 typedef unsigned long size;
 typedef unsigned char byte;
 
 _Static_assert(sizeof(size) == 8 && sizeof(void *) == 8, "this heap is for a 64-bit memory");
 
-enum { HEADER = 16, PAGE = 65536, CLASSES = 4 * 48 };
+enum { HEADER = 16, LEAST = 64, PAGE = 65536, CLASSES = 4 * 48 };
 
 /* No block is greater: two to the 40th bytes. */
 static const size LIMIT = 1ul << 40;
@@ -19,17 +20,19 @@ struct block {
     struct block *next;
 };
 
+void free(void *);
+
 extern byte __heap_base;
 static struct block *freed[CLASSES];
 static byte *end_of_blocks, *end_of_memory;
 
-/* The class of blocks that hold so many bytes, from 64 on. */
+/* The least class whose blocks have so many bytes, from LEAST on. */
 static size class_for(size bytes) {
     size highest = 63 - (size)__builtin_clzl(bytes - 1);
     return 4 * highest + ((bytes - 1) >> (highest - 2) & 3);
 }
 
-/* How many bytes a block of a class has, with those before it. */
+/* How many bytes a block of a class has, with its header. */
 static size bytes_in(size class) {
     return (5 + (class & 3)) << (class / 4 - 2);
 }
@@ -38,11 +41,12 @@ static size *class_of(void *block) {
     return (size *)((byte *)block - HEADER);
 }
 
-/* Makes the memory hold so many bytes more behind the last block. Answers whether it does. */
+/* Makes the memory hold so many bytes more behind the last block. Answers whether it does. A memory that does not grow answers -1;
+   where the module was lowered to a 32-bit memory, that is widened without its sign. No memory has so many pages. */
 static int grow(size bytes) {
     size missing = bytes - (size)(end_of_memory - end_of_blocks);
     size pages = (missing + PAGE - 1) / PAGE;
-    if (__builtin_wasm_memory_grow(0, pages) == (size)-1) {
+    if (__builtin_wasm_memory_grow(0, pages) >= 0xFFFFFFFF) {
         return 0;
     }
     end_of_memory += pages * PAGE;
@@ -63,22 +67,58 @@ static byte *taken(size bytes) {
     return bytes_there;
 }
 
+/* A block of a class, behind its header at these bytes. */
+static struct block *made(byte *bytes_there, size class) {
+    *(size *)bytes_there = class;
+    return (struct block *)(bytes_there + HEADER);
+}
+
+/* The last block that was freed of a class, which is free no more, or none. */
+static struct block *free_block(size class) {
+    struct block *block = freed[class];
+    if (block) {
+        freed[class] = block->next;
+    }
+    return block;
+}
+
+/* Frees bytes as the greatest blocks that they hold, one behind the other. */
+static void free_rest(byte *rest, size bytes) {
+    while (bytes >= LEAST) {
+        size class = class_for(bytes);
+        if (bytes_in(class) > bytes) {
+            class--;
+        }
+        free(made(rest, class));
+        rest += bytes_in(class);
+        bytes -= bytes_in(class);
+    }
+}
+
+/* A block of a class, cut from the least greater one that is free, or none. */
+static struct block *cut(size class) {
+    for (size greater = class + 1; greater < CLASSES; greater++) {
+        struct block *block = free_block(greater);
+        if (block) {
+            byte *bytes_there = (byte *)class_of(block);
+            free_rest(bytes_there + bytes_in(class), bytes_in(greater) - bytes_in(class));
+            return made(bytes_there, class);
+        }
+    }
+    return 0;
+}
+
 void *malloc(size bytes) {
     if (bytes > LIMIT) {
         return 0;
     }
-    size class = class_for(bytes < 64 - HEADER ? 64 : bytes + HEADER);
-    struct block *block = freed[class];
+    size class = class_for(bytes < LEAST - HEADER ? LEAST : bytes + HEADER);
+    struct block *block = free_block(class);
     if (block) {
-        freed[class] = block->next;
         return block;
     }
     byte *bytes_there = taken(bytes_in(class));
-    if (!bytes_there) {
-        return 0;
-    }
-    *(size *)bytes_there = class;
-    return bytes_there + HEADER;
+    return bytes_there ? made(bytes_there, class) : cut(class);
 }
 
 void free(void *block) {
