@@ -41,6 +41,7 @@ FILES = {
     "module32": ("alta_embed32.wasm.gz", "alta_embed32.wasm"),
 }
 LOWERED = "lowered"  # the word in MANIFEST for what has lowered the module to a 32-bit memory
+STEPS = "steps"  # and for the digest of what has made the modules of that of the proof
 CLANG = """
 if "-c" in words and "-o" in words:
     shutil.copyfile(words[words.index("ir") + 1], {module!r})
@@ -53,6 +54,11 @@ def digest_of(data):
 
 def sources():
     return call("release/digest", os.path.join(HERE, "digest"), cwd=TOP).rstrip("\n")
+
+
+def steps():
+    """The digest of the files that make the modules for pages: they are no sources of a proof."""
+    return digest_of(b"".join(read(os.path.join(TOP, "web", name)) for name in ("heap.c", "wasm.py")))
 
 
 def manifest():
@@ -138,6 +144,8 @@ def check():
     wasm.checked(files["module32"], False)
     if found["sources"] != sources():
         raise Fault("the released library is of other sources than these: release/make.py and then release/embedded.py make one of these")
+    if found.get(STEPS) != steps():
+        raise Fault("web/heap.c or web/wasm.py has changed since the modules were released: release/embedded.py makes them anew")
     return "the released library and its modules are those that release/MANIFEST names, and of these sources"
 
 
@@ -149,10 +157,10 @@ def write():
     for word, data in files.items():
         with open(os.path.join(HERE, FILES[word][0]), "wb") as file:
             file.write(gzip.compress(data, 9, mtime=0))
-    lines = [line for line in read(MANIFEST).decode().splitlines() if line.partition(" ")[0] not in (*FILES, LOWERED)]
+    lines = [line for line in read(MANIFEST).decode().splitlines() if line.partition(" ")[0] not in (*FILES, LOWERED, STEPS)]
     lines += [f"{word} {digest_of(data)}" for word, data in files.items()]
     with open(MANIFEST, "w", encoding="ascii") as file:
-        file.write("\n".join([*lines, f"{LOWERED} {lowered()}", ""]))
+        file.write("\n".join([*lines, f"{LOWERED} {lowered()}", f"{STEPS} {steps()}", ""]))
     return "released " + ", ".join(f"{FILES[word][1]} ({len(data)} bytes)" for word, data in files.items())
 
 

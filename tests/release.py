@@ -311,7 +311,7 @@ class Library(WithRelease):
     def setUp(self):
         super().setUp()
         os.makedirs(os.path.join(self.top, "web"))
-        for file in ("release/embedded.py", "web/wasm.py"):
+        for file in ("release/embedded.py", "web/heap.c", "web/wasm.py"):
             shutil.copy(os.path.join(TOP, file), os.path.join(self.top, file))
         self.environment["PATH"] = os.path.dirname(sys.executable) + os.pathsep + self.environment["PATH"]
         self.files = {"library": b"library", "module": wasm_of(4, self.EXPORTS), "module32": wasm_of(0, self.EXPORTS)}
@@ -321,7 +321,9 @@ class Library(WithRelease):
         """Packs the files, and names their digests, but for these values."""
         for word, data in self.files.items():
             self.put(f"release/{self.NAMES[word]}", gzip.compress(data))
-        self.release(script("released").encode(), **{**{word: digest_of(data) for word, data in self.files.items()}, **values})
+        made_by = "".join(self.text(f"web/{name}") for name in ("heap.c", "wasm.py"))
+        digests = {word: digest_of(data) for word, data in self.files.items()}
+        self.release(script("released").encode(), **{**digests, "steps": digest_of(made_by.encode()), **values})
 
     def asked(self, *words, status=0):
         return done(sys.executable, os.path.join(self.top, "release", "embedded.py"), *words, status=status, env=self.environment).rstrip("\n")
@@ -348,6 +350,9 @@ class Library(WithRelease):
         faults("of other sources than these", "--check")
         faults("of other sources than these", "--path", "alta_embed.wasm")
         faults("release/make.py makes one of these first")
+        self.put_files()
+        self.put("web/heap.c", self.text("web/heap.c") + "\n")
+        faults("web/heap.c or web/wasm.py has changed since the modules were released", "--check")
         self.put_files()
         self.put("release/alta_embed.wasm.gz", b"none")
         faults("alta_embed.wasm.gz can't be unpacked", "--check")
