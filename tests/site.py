@@ -258,11 +258,12 @@ class Folders(Case):
         self.assertFalse(os.path.exists(self.site))
 
     def test_the_module_is_looked_for(self):
-        with unittest.mock.patch.dict(os.environ), unittest.mock.patch.object(module, "places", return_value=iter(["/nowhere"])):
+        missing = FileNotFoundError(2, "it is not here", module.NAME)
+        with unittest.mock.patch.dict(os.environ), unittest.mock.patch.object(module, "released", side_effect=missing):
             del os.environ["BUNCOCEDAR_MODULE"]
             with self.assertRaises(module.NoModule) as raised:
                 module.module()
-        self.assertIn("BUNCOCEDAR_MODULE", str(raised.exception))
+        self.assertIn("it is not here; BUNCOCEDAR_MODULE", str(raised.exception))
 
     def hides(self, deleted):
         """Makes a site, which has the one document that is there, and nothing of the words of these."""

@@ -4,9 +4,9 @@ from __future__ import annotations
 
 import gzip
 import os
-import sysconfig
 import zlib
-from typing import Iterator
+
+from ..embedded import released
 
 NAME = "alta_embed32.wasm"
 VARIABLE = "BUNCOCEDAR_MODULE"
@@ -17,27 +17,12 @@ class NoModule(Exception):
     """Why there is no module."""
 
 
-def places() -> Iterator[str]:
-    """The paths at which the module may be, packed or not: of the checkout, or beside the program that was installed with this package."""
-    top = os.path.dirname(os.path.dirname(os.path.dirname(os.path.dirname(os.path.abspath(__file__)))))
-    if os.path.isdir(os.path.join(top, "crates")):
-        yield os.path.join(top, "web", "out", NAME)
-        yield os.path.join(top, "release", f"{NAME}.gz")
-        return
-    site = os.path.dirname(os.path.dirname(os.path.dirname(os.path.abspath(__file__))))
-    prefixes = [site, *(sysconfig.get_paths(scheme)["data"] for scheme in sysconfig.get_scheme_names()), "/usr"]
-    for prefix in dict.fromkeys(prefixes):
-        yield os.path.join(prefix, "libexec", "buncocedar", NAME)
-
-
 def module_path() -> str:
-    """The path of the module: what the variable BUNCOCEDAR_MODULE says, or the first place that has it. Raises `NoModule`."""
-    if os.environ.get(VARIABLE):
-        return os.environ[VARIABLE]
-    found = next(filter(os.path.exists, places()), None)
-    if found is None:
-        raise NoModule(f"the module {NAME} is missing, which searches in the page: install it, or set {VARIABLE} to its path")
-    return found
+    """The path of the module: what the variable BUNCOCEDAR_MODULE says, or that of the release. Raises `NoModule`."""
+    try:
+        return os.environ.get(VARIABLE) or released(NAME)
+    except FileNotFoundError as fault:
+        raise NoModule(f"the module {NAME} is missing, which searches in the page: {fault.strerror}; {VARIABLE} may say its path") from None
 
 
 def module() -> bytes:
