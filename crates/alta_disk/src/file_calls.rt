@@ -99,8 +99,8 @@ pub(crate) fn sync_data(file: &File) -> Result<(), FileFault> {
 }
 
 // Makes firm what a write to this place goes by, where the file has a head: both slots, and where the place lies in a half of the
-// journal the records before it. A program that was killed inside of a sync that failed could not write the head again, and the
-// system tells of that sync no more.
+// journal the records before it, up to the closed gate behind which it is written. A program that was killed inside of a sync that
+// failed could not write the head again, and the system tells of that sync no more.
 pub(crate) fn renew_head(file: &File, at: u64) -> Result<(), FileFault> {
     if plain_length(file)? < HEAD_BYTES {
         return Ok(());
@@ -108,10 +108,8 @@ pub(crate) fn renew_head(file: &File, at: u64) -> Result<(), FileFault> {
     named("pwrite64", write_again(file, 0, SLOTS_BYTES))?;
     if at < HEAD_BYTES {
         let start = if at < START_B { START_A } else { START_B };
-        named(
-            "pwrite64",
-            write_again(file, start, at.saturating_sub(start)),
-        )?;
+        let records = at.saturating_sub(start + 1);
+        named("pwrite64", write_again(file, start, records))?;
     }
     sync_data(file)
 }
