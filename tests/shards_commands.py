@@ -6,6 +6,8 @@ usage: tests/shards_commands.py [--program PATH]
 Without --program the cases run over `fake.py`, those that need the real one are left out, and that is said.
 """
 
+import contextlib
+import io
 import json
 import os
 import shutil
@@ -22,9 +24,24 @@ from asking import compared, documents_of_texts, queries
 from sharding import EVERY, FAKE, TEXTS, Case, ours, take_program
 
 from buncocedar import Error, Index
-from buncocedar.shards import ShardedIndex, Shelf, number_of, settings_of, shard_of, shard_path
+from buncocedar.shards import ShardedIndex, Shelf, command, number_of, settings_of, shard_of, shard_path
 from buncocedar.shards.moving import moved, moves
 from buncocedar.shards.places import Fixed, Here
+
+
+class Silent:
+    """A place that gives no answer."""
+
+    name = "silent"
+    is_apart = False
+
+    def call(self, method, *args):
+        future = Future()
+        future.set_exception(Error("gone"))
+        return future
+
+    def close(self):
+        pass
 
 
 class Commands(Case):
@@ -43,6 +60,16 @@ class Moving(Commands):
         self.assertEqual(moves({"a": range(4), "b": range(4, 9)}), [])
         self.assertEqual(moves({"a": range(7)}), [])
         self.assertEqual(len(moves({"a": range(8), "b": (), "c": ()})), 5)
+
+    def test_a_plan_without_a_place_that_does_not_answer(self):
+        self.filled().close()
+        index = ShardedIndex(Fixed([*self.shelf(self.folder), Silent()], "both"))
+        printed, said = io.StringIO(), io.StringIO()
+        with unittest.mock.patch("buncocedar.shards.command.opened", return_value=index):
+            with contextlib.redirect_stdout(printed), contextlib.redirect_stderr(said):
+                self.assertEqual(command.main(["plan", "both"]), 0)
+        self.assertEqual(printed.getvalue(), "")
+        self.assertEqual(said.getvalue(), "shards: silent is left out: silent: gone\n")
 
     def test_a_shard_moves(self):
         self.filled().close()

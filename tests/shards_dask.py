@@ -240,7 +240,8 @@ def commands(cluster, client, options, program, folder):
     found = client.index.count("fox")
     before = homes(cluster, program)
     assert sorted(before) == list(range(options.shards)), before
-    assert bunco(program, "shards", "plan", cluster.address) == ("", "")
+    planned = bunco(program, "shards", "plan", cluster.address)
+    assert planned == ("", ""), (planned, before)
     target = before[1]
     assert re.search("shard 0, [0-9,]+ bytes, is at", bunco(program, "shards", "move", cluster.address, "0", target)[1])
     assert homes(cluster, program) == {**before, 0: target}

@@ -116,7 +116,10 @@ def show_stats(options):
 
 def show_plan(options):
     with opened(options) as index:
-        spread = {place.name: index.shards_at(place) for place in index.places}
+        left_out = index.left_out()
+        spread = {place.name: index.shards_at(place) for place in index.places if place.name not in left_out}
+    for place, why in left_out.items():
+        say(f"{place} is left out: {why}")
     spread.update((folder, shards_in(folder) if os.path.isdir(folder) else []) for folder in options.words)
     for move in moves(spread):
         print(f"bunco shards move {move.source if os.path.isdir(move.source) else options.index} {move.shard} {move.target}")

@@ -63,11 +63,13 @@ def settings_of(folder: str) -> Settings:
 
 def write_settings(folder: str, settings: Settings) -> None:
     place = os.path.join(folder, SETTINGS)
-    with open(place + ".new", "w", encoding="utf-8") as file:
+    # Several workers of one machine may write the same settings at once, as those of a copy.
+    new = f"{place}.{uuid.uuid4().hex}.new"
+    with open(new, "w", encoding="utf-8") as file:
         json.dump({"form": FORM, **settings._asdict()}, file)
         file.flush()
         os.fsync(file.fileno())
-    os.rename(place + ".new", place)
+    os.rename(new, place)
     sync_folder(folder)
 
 

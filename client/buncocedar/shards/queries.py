@@ -41,6 +41,10 @@ class ShardedQueries:
         """The places that were found last."""
         return self._where.places
 
+    def left_out(self) -> Dict[str, str]:
+        """Of each place that was found last and has no part in the index, as it gave no answer, why, by its name."""
+        return self._where.left_out()
+
     def place_of(self, shard: int) -> Any:
         """The place where a shard stands. Raises `Missing`."""
         if shard not in self._where.home:

@@ -105,6 +105,10 @@ class Whereabouts:
         """Takes the shards of a place for missing, until they are looked for."""
         self.home = {shard: home for shard, home in self.home.items() if home is not place}
 
+    def left_out(self) -> Dict[str, str]:
+        """Of each place that was found last and has no part in the index, as it gave no answer, why, by its name."""
+        return {place.name: self._why[place.name] for place in self.places if place.name in self._why}
+
     def why_missing(self, shard: int) -> str:
         if shard in self.twice:
             return f"shard {shard} is in two places, {' and '.join(place.name for place in self.twice[shard])}"
