@@ -362,6 +362,35 @@ class RealProgram(Case):
         self.assertEqual(read(self.path), before)
         self.assertIn("may not be written: a private copy of it is searched", said[0])
 
+    def test_packages_by_words_of_their_names(self):
+        named = {
+            "htop": "interactive processes viewer",
+            "python3-flask": "micro web framework",
+            "golang-socket.io-dev": "realtime events",
+            "libgtk2.0-doc": "widgets",
+        }
+        self.run_bunco(
+            "packages",
+            self.path,
+            self.write("status", "".join(f"Package: {name}\nDescription: {about}\n more\n\n" for name, about in named.items())),
+        )
+        for query, found in (
+            ("htop", "htop"),
+            ("HTOP", ""),
+            ("title:htop", "htop"),
+            ("flask", "python3-flask"),
+            ('"python3 flask"', "python3-flask"),
+            ("socket", "golang-socket.io-dev"),
+            ("socket.io", "golang-socket.io-dev"),
+            ("libgtk2.0", "libgtk2.0-doc"),
+            ("doc", "libgtk2.0-doc"),
+            ("gtk2", ""),
+            ("viewer htop", "htop"),
+        ):
+            with self.subTest(query):
+                answer = self.run_bunco("find", self.path, query, "--names", expect=0 if found else 1)
+                self.assertEqual(answer, f"{found}\n" if found else "")
+
     def test_a_file_that_is_something_else(self):
         for content, advice in [
             (b"From a Mon Jan  1 00:00:00 2024\n\nfox\n", "is this the right path?"),

@@ -13,50 +13,67 @@ and its standard library.
 
 from __future__ import annotations
 
+import importlib
 from typing import TYPE_CHECKING, Any
-
-from .cursors import Cursor
-from .errors import (
-    BadLine,
-    BadName,
-    Closed,
-    Damaged,
-    DiskFault,
-    Ended,
-    Error,
-    Full,
-    IndexExists,
-    InputFault,
-    InputTooLong,
-    InUse,
-    LineTooLong,
-    NoFile,
-    NoIndex,
-    NoNumbersLeft,
-    NoSuchCursor,
-    NoSuchDocument,
-    NotUtf8,
-    OutOfMemory,
-    OutputFault,
-    ProtocolFault,
-    QueryFault,
-    Refused,
-    ServerEnded,
-    TooManyCursors,
-    UnknownCommand,
-    Usage,
-    disk_cause,
-)
-from .holders import holder
-from .index import Index
-from .lines import LINE_LIMIT, add_line, value_range
-from .links import default_program, server_path
-from .replies import MOST_BEST, Added, Dumped, Page, Reply, Scored, Skipped, Stats, Top
-from .texts import marked, name_ok
-from .wording import phrase, words
 
 if TYPE_CHECKING:
     from .asynchronous import AsyncCursor, AsyncIndex
+    from .cursors import Cursor
+    from .errors import (
+        BadLine,
+        BadName,
+        Closed,
+        Damaged,
+        DiskFault,
+        Ended,
+        Error,
+        Full,
+        IndexExists,
+        InputFault,
+        InputTooLong,
+        InUse,
+        LineTooLong,
+        NoFile,
+        NoIndex,
+        NoNumbersLeft,
+        NoSuchCursor,
+        NoSuchDocument,
+        NotUtf8,
+        OutOfMemory,
+        OutputFault,
+        ProtocolFault,
+        QueryFault,
+        Refused,
+        ServerEnded,
+        TooManyCursors,
+        UnknownCommand,
+        Usage,
+        disk_cause,
+    )
+    from .holders import holder
+    from .index import Index
+    from .lines import LINE_LIMIT, add_line, value_range
+    from .links import default_program, server_path
+    from .replies import MOST_BEST, Added, Dumped, Page, Reply, Scored, Skipped, Stats, Top
+    from .texts import marked, name_ok
+    from .wording import phrase, words
+
+# The module of each name. It is loaded when the name is asked for: who counts answers needs a third of them.
+_HOMES = {
+    "asynchronous": "AsyncCursor AsyncIndex",
+    "cursors": "Cursor",
+    "errors": "BadLine BadName Closed Damaged DiskFault Ended Error Full IndexExists InputFault InputTooLong InUse LineTooLong NoFile "
+    "NoIndex NoNumbersLeft NoSuchCursor NoSuchDocument NotUtf8 OutOfMemory OutputFault ProtocolFault QueryFault Refused "
+    "ServerEnded TooManyCursors UnknownCommand Usage disk_cause",
+    "holders": "holder",
+    "index": "Index",
+    "lines": "LINE_LIMIT add_line value_range",
+    "links": "default_program server_path",
+    "replies": "MOST_BEST Added Dumped Page Reply Scored Skipped Stats Top",
+    "texts": "marked name_ok",
+    "wording": "phrase words",
+}
+_HOME_OF = {name: module for module, names in _HOMES.items() for name in names.split()}
 
 __version__ = "0.3.0"
 __all__ = [
@@ -116,9 +133,14 @@ __all__ = [
 
 
 def __getattr__(name: str) -> Any:
-    """Reads `AsyncIndex` and `AsyncCursor` when they are asked for: asyncio takes a third of what all others take together."""
-    if name in ("AsyncCursor", "AsyncIndex"):
-        from . import asynchronous
+    """Loads the module that has this name, or is called so."""
+    if name in _HOMES:
+        return importlib.import_module(f".{name}", __name__)
+    if name not in _HOME_OF:
+        raise AttributeError(f"module {__name__!r} has no attribute {name!r}")
+    value = globals()[name] = getattr(importlib.import_module(f".{_HOME_OF[name]}", __name__), name)
+    return value
 
-        return getattr(asynchronous, name)
-    raise AttributeError(f"module {__name__!r} has no attribute {name!r}")
+
+def __dir__() -> Any:
+    return sorted({*globals(), *__all__})

@@ -17,9 +17,7 @@ import functools
 import operator
 import os
 import re
-import shutil
 import stat
-import tempfile
 from typing import Iterable, Iterator, List
 
 PREFIX = ".making-"
@@ -96,6 +94,8 @@ def making(parent: str, prefix: str = PREFIX) -> Iterator[str]:
 
     What was left in this one is taken away first.
     """
+    import shutil
+
     with contextlib.suppress(OSError):
         remove_left(parent, prefix)
     folder, handle = _locked_folder(parent, prefix)
@@ -150,6 +150,8 @@ def _is_done(call, path):
 
 def _locked_folder(parent, prefix):
     """A new folder and the handle that locks it."""
+    import tempfile
+
     while True:
         folder = tempfile.mkdtemp(prefix=prefix, dir=parent)
         try:

@@ -1,7 +1,5 @@
 """What an import takes: a document, the text of it, and why there is none."""
 
-from __future__ import annotations
-
 from typing import Callable, NamedTuple, Optional, Tuple
 
 TEXT_LIMIT = 33_554_432  # bytes of a text that are looked at

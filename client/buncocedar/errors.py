@@ -9,7 +9,7 @@ import signal
 import stat
 from typing import Optional
 
-from .texts import NUMBER, marked
+from .texts import NUMBER, Regular, marked
 
 SCANT_ROOM = 4_194_304  # bytes: with fewer free a disk counts as full
 ROOTS = 8_192  # bytes at the front of an index, where its roots stand
@@ -116,7 +116,7 @@ class QueryFault(Refused):
         self.cause = cause
 
 
-_QUERY_FAULT = re.compile(f"! query {NUMBER} ([A-Za-z]+)")
+_QUERY_FAULT = Regular(f"! query {NUMBER} ([A-Za-z]+)")
 
 
 def refusal_of(reply, command, query):

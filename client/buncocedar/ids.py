@@ -6,9 +6,9 @@
 
 from __future__ import annotations
 
-import re
+from .texts import Regular
 
-_ASKED = re.compile(r"(?<![^\s(])id:([^\s()]+)(?=(\)?))")
+_ASKED = Regular(r"(?<![^\s(])id:([^\s()]+)(?=(\)?))")
 
 
 def with_names(query: str) -> str:

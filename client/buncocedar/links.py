@@ -3,28 +3,25 @@
 from __future__ import annotations
 
 import contextlib
-import logging
 import os
-import re
 import select
-import shutil
 import signal
-import socket
 import stat
 import subprocess
-import sysconfig
 import time
-import warnings
 
 from .errors import InUse
+from .texts import Regular
 
-LOG = logging.getLogger("buncocedar")  # what a program says that is no reply and no end; without a handler it goes to standard error
+LOG = "buncocedar"  # the log of what a program says that is no reply and no end; without a handler it goes to standard error
 SECONDS_TO_CONNECT = 10.0  # that a server has to take a client
 SECONDS_TO_END = 5  # that a program has to end, once it can read no more lines
 
 
 def _installed_program() -> str | None:
     """The path of `alta` as it was installed with this package: where the same scheme, or `pip install --target`, puts commands."""
+    import sysconfig
+
     site = os.path.realpath(os.path.dirname(os.path.dirname(os.path.abspath(__file__))))
     places = [os.path.join(site, "bin")]
     for scheme in sysconfig.get_scheme_names():
@@ -47,6 +44,8 @@ def default_program() -> str:
         return os.environ["BUNCOCEDAR_PROGRAM"]
     if os.path.isdir(os.path.join(top, "crates")) and os.path.exists(checkout):
         return checkout
+    import shutil
+
     found = _installed_program() or shutil.which("alta") or shutil.which("alta_cli")
     if found is None:
         raise FileNotFoundError(2, "the program is missing: install it, or set BUNCOCEDAR_PROGRAM to its path", "alta")
@@ -60,7 +59,7 @@ class Said:
     `buncocedar`, as that the program is built.
     """
 
-    status_line = re.compile(
+    status_line = Regular(
         "alta: (usage: .*|(disk|input|output) fault|out of memory|damaged at [0-9]+|no index|"
         "full, need [0-9]+, greatest gap [0-9]+|input too long|index exists|not empty, and no index)"
     )
@@ -93,7 +92,9 @@ class Said:
         elif self.line and line.startswith("alta: "):
             self.line += line[len("alta") :]
         else:
-            LOG.warning("%s", line)
+            import logging
+
+            logging.getLogger(LOG).warning("%s", line)
 
 
 def started(program, path, word, **options):
@@ -175,7 +176,7 @@ class Service:
     """The server of an index, behind a socket, which speaks as the program does; when that ends, it says so in a line."""
 
     said = None
-    end_line = re.compile("! ended (-?[0-9]+) (.*)", re.DOTALL)
+    end_line = Regular("(?s)! ended (-?[0-9]+) (.*)")
 
     def __init__(self, connection):
         connection.setblocking(False)
@@ -187,7 +188,7 @@ class Service:
         """Lets the server end this connection, once it has answered what it was given."""
         self.input = None
         self.status = 0, ""
-        self._shut(socket.SHUT_WR)
+        self._shut("SHUT_WR")
 
     def give_up_input(self):
         self.input = None
@@ -198,11 +199,13 @@ class Service:
 
     def kill(self):
         self.status = -signal.SIGKILL, "the connection to the server was ended"
-        self._shut(socket.SHUT_RDWR)
+        self._shut("SHUT_RDWR")
 
     def _shut(self, which):
+        import socket
+
         try:
-            self.connection.shutdown(which)
+            self.connection.shutdown(getattr(socket, which))
         except OSError:
             pass
 
@@ -247,6 +250,8 @@ def connected(path, seconds=SECONDS_TO_CONNECT):
 
 def _connection(place):
     """A connection to a socket, None where its queue is full: one that waits would wait without end."""
+    import socket
+
     connection = socket.socket(socket.AF_UNIX)
     connection.setblocking(False)
     try:
@@ -269,6 +274,8 @@ def let_go(link, out, path, owner):
         while time.monotonic() < end and _goes_on(link, out, end - time.monotonic()):
             pass
     link.ended()
+    import warnings
+
     warnings.warn(f"the index {path} was not closed", ResourceWarning, stacklevel=2)
 
 

@@ -1,26 +1,24 @@
 """Replies: the form of each, what a call makes of it, and the one that is waited for."""
 
-from __future__ import annotations
-
 import copy
 import re
 from collections import deque
 from typing import Any, Callable, Generic, Iterator, List, NamedTuple, Optional, Tuple, TypeVar
 
 from .errors import Error, ProtocolFault, Refused, refusal_of
-from .texts import NUMBER
+from .texts import NUMBER, Regular
 
 Row = Tuple[int, str]  # number and name
 MOST_BEST = 1_000  # of the best answers, that may be asked for at once
-ADDED = re.compile(f"added {NUMBER}|replaced {NUMBER} by {NUMBER}")
-DELETED = re.compile(f"deleted {NUMBER}")
-FOUND = re.compile(f"found {NUMBER}")
-STATS = re.compile(f"documents {NUMBER} words {NUMBER} next {NUMBER}")
-CURSOR = re.compile(f"cursor {NUMBER}")
-CLOSED = re.compile(f"closed {NUMBER}")
-PAGE_END = re.compile("more|end")
-OK = re.compile("ok")
-DUMP_END = re.compile(f"dumped {NUMBER}")
+ADDED = Regular(f"added {NUMBER}|replaced {NUMBER} by {NUMBER}")
+DELETED = Regular(f"deleted {NUMBER}")
+FOUND = Regular(f"found {NUMBER}")
+STATS = Regular(f"documents {NUMBER} words {NUMBER} next {NUMBER}")
+CURSOR = Regular(f"cursor {NUMBER}")
+CLOSED = Regular(f"closed {NUMBER}")
+PAGE_END = Regular("more|end")
+OK = Regular("ok")
+DUMP_END = Regular(f"dumped {NUMBER}")
 
 
 class Added(int):
@@ -85,15 +83,15 @@ Value = TypeVar("Value")  # of a reply
 class Lines(NamedTuple):
     """The lines of a reply before its last one: their form, and what is made of one."""
 
-    form: re.Pattern
+    form: Regular
     made: Callable[[re.Match], Any]
 
 
-ROWS = Lines(re.compile(f"{NUMBER} ([!-~]{{1,64}})"), lambda line: (int(line[1]), line[2]))
-SCORED = Lines(re.compile(f"{NUMBER} ([!-~]{{1,64}}) {NUMBER}"), lambda line: Scored(int(line[1]), line[2], int(line[3])))
-TEXTS = Lines(re.compile(".*", re.DOTALL), lambda line: line[0])
+ROWS = Lines(Regular(f"{NUMBER} ([!-~]{{1,64}})"), lambda line: (int(line[1]), line[2]))
+SCORED = Lines(Regular(f"{NUMBER} ([!-~]{{1,64}}) {NUMBER}"), lambda line: Scored(int(line[1]), line[2], int(line[3])))
+TEXTS = Lines(Regular(".*", re.DOTALL), lambda line: line[0])
 DUMPED = Lines(
-    re.compile(f"add ([!-~]{{1,64}})\t([^\t]*)\t(.*)|skipped {NUMBER} ([!-~]{{1,64}})", re.DOTALL),
+    Regular(f"add ([!-~]{{1,64}})\t([^\t]*)\t(.*)|skipped {NUMBER} ([!-~]{{1,64}})", re.DOTALL),
     lambda line: Skipped(int(line[4]), line[5]) if line[1] is None else Dumped(line[1], line[2], line[3]),
 )
 

@@ -2,11 +2,7 @@
 
 import contextlib
 import os
-import shlex
-import socket
-import subprocess
 import sys
-from urllib.parse import quote
 
 MARK, NAME, PLACE, PLAIN = "\x1b[1;31m", "\x1b[35m", "\x1b[32m", "\x1b[0m"
 
@@ -71,11 +67,7 @@ def wants_colour(choice):
 @contextlib.contextmanager
 def paged(wanted):
     """Standard output through the user's pager, which ends by itself where all fits on the screen."""
-    words = shlex.split(os.environ.get("PAGER", "less")) if wanted and sys.stdout.isatty() else []
-    try:
-        pager = subprocess.Popen(words, stdin=subprocess.PIPE, env={"LESS": "FRX", **os.environ}) if words else None
-    except OSError:
-        pager = None
+    pager = started_pager() if wanted and sys.stdout.isatty() else None
     if pager is None:
         yield
         return
@@ -91,6 +83,18 @@ def paged(wanted):
         os.dup2(terminal, sys.stdout.fileno())
         os.close(terminal)
         waited(pager)
+
+
+def started_pager():
+    """The user's pager, or None where there is none."""
+    import shlex
+    import subprocess
+
+    words = shlex.split(os.environ.get("PAGER", "less"))
+    try:
+        return subprocess.Popen(words, stdin=subprocess.PIPE, env={"LESS": "FRX", **os.environ}) if words else None
+    except OSError:
+        return None
 
 
 def waited(process):
@@ -111,6 +115,8 @@ BEHIND_THE_NAME = {"code": ["--goto"], "codium": ["--goto"], "hx": [], "subl": [
 
 def editor_words(path, line):
     """The command that opens a file in the user's editor, at a line where it is known how that editor takes one."""
+    import shlex
+
     words = shlex.split(os.environ.get("VISUAL") or os.environ.get("EDITOR") or "vi")
     name = os.path.basename(words[0]).partition(".")[0] if words else ""
     if name in BEHIND_THE_NAME:
@@ -120,9 +126,14 @@ def editor_words(path, line):
 
 def edited(path, line=1):
     """Opens a file in the user's editor until that ends, and answers its status. Raises `OSError` where it can't be started."""
+    import subprocess
+
     return waited(subprocess.Popen(editor_words(path, line)))
 
 
 def linked(text, path):
     """The text as a link to a file, by the sequence OSC 8 that terminals know."""
+    import socket
+    from urllib.parse import quote
+
     return f"\x1b]8;;file://{socket.gethostname()}{quote(os.fsencode(os.path.abspath(path)))}\x1b\\{text}\x1b]8;;\x1b\\"

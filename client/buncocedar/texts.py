@@ -4,10 +4,28 @@ from __future__ import annotations
 
 import operator
 import re
-import unicodedata
+from typing import Any, Union
 
-_NAME = re.compile(r"[!-~]{1,64}")
 NUMBER = r"(0|[1-9][0-9]*)"
+
+
+class Regular:
+    """A regular expression that is compiled when it is first used: a run uses few of all that there are."""
+
+    def __init__(self, expression: Union[str, bytes], flags: int = 0):
+        self._expression = expression
+        self._flags = flags
+
+    def __getattr__(self, name: str) -> Any:
+        """A method of the compiled expression, which from then on is found here."""
+        if name.startswith("_"):
+            raise AttributeError(name)
+        method = getattr(re.compile(self._expression, self._flags), name)
+        setattr(self, name, method)
+        return method
+
+
+_NAME = Regular(r"[!-~]{1,64}")
 
 
 def name_ok(name: str) -> bool:
@@ -57,6 +75,8 @@ def columns(text: str) -> int:
 
 
 def _columns_of(character):
+    import unicodedata
+
     if unicodedata.category(character) in ("Mn", "Me") or "\u1160" <= character <= "\u11ff":
         return 0
     return 2 if unicodedata.east_asian_width(character) in "WF" else 1

@@ -33,21 +33,18 @@ Who writes the file holds its lock (`flock`), from before it is read: of two imp
 # write each over the other's. No file is made for it, and an import that is killed leaves no lock. SQLite's own locks are of
 # another kind (`fcntl`). A process loses those where it closes any handle of the file, so the handle of the lock is closed last.
 
-from __future__ import annotations
-
 import contextlib
 import functools
-import hashlib
 import os
 import re
 import sqlite3
 import threading
 import time
 from typing import NamedTuple, Optional
-from urllib.parse import quote, unquote_to_bytes
 
 from ..beside import give_rights, is_at, lock
 from ..errors import InUse
+from ..texts import Regular
 
 NAME_LIMIT = 64
 STEM_LIMIT = 58  # characters of a name before the end of a part, as `~p2`
@@ -71,17 +68,19 @@ COLUMNS = "numbers, stamp, source, place, content, mark, notes"
 MOMENT = "moment"  # the column behind these, which an older version had not
 
 _NAME = "[!-~]{1,64}"
-_PART = re.compile("(.+)~p([1-9][0-9]*)", re.DOTALL)
-_NUMBERED = re.compile(".+~([1-9][0-9]*)", re.DOTALL)
-_QUOTED = re.compile(rb"[^A-Za-z0-9_.~/-]")
-_PLACE = re.compile(r"([^@]*)(?:@([0-9]+)\+([0-9]+))?")
+_PART = Regular("(.+)~p([1-9][0-9]*)", re.DOTALL)
+_NUMBERED = Regular(".+~([1-9][0-9]*)", re.DOTALL)
+_QUOTED = Regular(rb"[^A-Za-z0-9_.~/-]")
+_PLACE = Regular(r"([^@]*)(?:@([0-9]+)\+([0-9]+))?")
 # The lines of an older version.
-_STAMP = re.compile(f"({_NAME}) ([1-9][0-9]*(?:,[1-9][0-9]*)*) ([0-9a-f]{{32}}) ([0-9a-f]{{8}})(?: (?=[!-~])([!-?A-~]*(?:@[0-9]+\\+[0-9]+)?)(?: ([0-9a-f]{{32}}))?)?".encode())
-_SOURCE = re.compile(b"= ([0-9a-f]{8}) ([a-z]+) ([!-~]+)")
-_GONE = re.compile(f"- ({_NAME})".encode())
+_STAMP = Regular(f"({_NAME}) ([1-9][0-9]*(?:,[1-9][0-9]*)*) ([0-9a-f]{{32}}) ([0-9a-f]{{8}})(?: (?=[!-~])([!-?A-~]*(?:@[0-9]+\\+[0-9]+)?)(?: ([0-9a-f]{{32}}))?)?".encode())
+_SOURCE = Regular(b"= ([0-9a-f]{8}) ([a-z]+) ([!-~]+)")
+_GONE = Regular(f"- ({_NAME})".encode())
 
 
 def digest(data, size=16):
+    import hashlib
+
     return hashlib.blake2b(data, digest_size=size).hexdigest()
 
 
@@ -150,7 +149,7 @@ def spelled_path(path):
 def place_of(text):
     """The place that is spelled so."""
     path, begin, length = _PLACE.fullmatch(text).groups()
-    return Place(os.fsdecode(unquote_to_bytes(path)), *((int(begin), int(length)) if begin else ()))
+    return Place(spoken(path), *((int(begin), int(length)) if begin else ()))
 
 
 def below(top, place):
@@ -274,7 +273,7 @@ class Records:
         except FileNotFoundError:
             is_base = None
         if is_base:
-            return sqlite3.connect(f"file:{quote(os.fsencode(path))}?mode=ro", uri=True, timeout=SECONDS_FOR_ROWS, check_same_thread=False)
+            return sqlite3.connect(f"file:{spelled_path(path)}?mode=ro", uri=True, timeout=SECONDS_FOR_ROWS, check_same_thread=False)
         base = sqlite3.connect(":memory:", check_same_thread=False)
         base.executescript(TABLES)
         if is_base is False:
@@ -472,6 +471,8 @@ def row_of(stamp):
 
 def spoken(path):
     """The path that is spelled as in URLs."""
+    from urllib.parse import unquote_to_bytes
+
     return os.fsdecode(unquote_to_bytes(path))
 
 

@@ -25,10 +25,10 @@ from __future__ import annotations
 
 import importlib
 import os
-import re
 from typing import TYPE_CHECKING, Any, Union
 
 from ..index import Index
+from ..texts import Regular
 
 if TYPE_CHECKING:
     from .changes import Change
@@ -78,7 +78,7 @@ __all__ = [
 
 SECONDS_FOR_AN_ANSWER = 30.0
 
-_ADDRESS = re.compile(r"(?:[a-z]+://)?[^/\s]+:[0-9]+")
+_ADDRESS = Regular(r"(?:[a-z]+://)?[^/\s]+:[0-9]+")
 
 
 def is_address(path: str) -> bool:

@@ -2,15 +2,12 @@
 
 import contextlib
 import sys
-import unicodedata
 from typing import Any, NamedTuple, Optional
 
 from ..errors import NotUtf8, Refused, UnknownCommand
 from ..replies import MOST_BEST
 from ..terminal import paged
 from .hints import field_hints, operator_hints, spelling_hints
-from .matching import Wanted
-from .rows import Best, ByDate, Rows, Threads, whole_documents
 
 FAULT = 2
 PROMPT_HELP = """A line is a query: words, "a phrase", qui*, title:fox, name:x, red NEAR/5 fox, AND, OR, NOT, ( ).
@@ -45,14 +42,13 @@ def say(text):
 
 def take(index, query, view, limit, top=None):
     """Takes the answer to a query from the index; where `top` is given so many of the best. A fault is told."""
-    # Texts are stored with composed letters.
-    query = unicodedata.normalize("NFC", query)
+    query = composed(query)
     try:
         if not is_text(query):
             # As the program says it: in a query of the client these bytes would stand for others.
             raise NotUtf8("! not UTF-8")
         answered = taken(index, query, view, limit, top)
-        view.wanted = Wanted(index.explain(query)) if view.needs_wanted() else None
+        view.wanted = wanted_by(index, query) if view.needs_wanted() else None
     except Refused as refusal:
         print(refusal, file=sys.stderr)
         answered = Answered((), 0, FAULT)
@@ -61,11 +57,31 @@ def take(index, query, view, limit, top=None):
     return answered
 
 
+def composed(query):
+    """The query with composed letters, as texts are stored."""
+    if query.isascii():
+        return query
+    import unicodedata
+
+    return unicodedata.normalize("NFC", query)
+
+
+def wanted_by(index, query):
+    """What documents are looked through for, that a query finds."""
+    from .matching import Wanted
+
+    return Wanted(index.explain(query))
+
+
 def taken(index, query, view, limit, top):
     options, places = view.options, view.places
+    if options.count and not options.thread and not places.has_parts():
+        return Answered((), index.count(query))
+    # Loaded here: a count of documents that are whole needs none of them.
+    from .rows import Best, ByDate, Rows, Threads, whole_documents
+
     if options.count and not options.thread:
-        whole = whole_documents(index.search(query), places) if places.has_parts() else None
-        return Answered((), index.count(query) if whole is None else sum(1 for _ in whole))
+        return Answered((), sum(1 for _ in whole_documents(index.search(query), places)))
     if top is not None:
         rows = Best(index, query, top, places)
         return Answered(rows, rows.total)
@@ -176,7 +192,7 @@ class Asking:
         view = self.view
         if self.query is not None and view.wanted is None:
             with self.opened() as index:
-                view.wanted = Wanted(index.explain(self.query))
+                view.wanted = wanted_by(index, self.query)
         with paged(command == "show" and not view.options.no_pager):
             is_done = getattr(view, command)(view.places.named(word))
         sys.stdout.flush()

@@ -8,12 +8,10 @@ import contextlib
 import importlib
 import os
 import re
-import tempfile
 
 from ..document import Unfit
-from ..imports.packed import is_packed
 from ..imports.stamps import STEM_LIMIT, Records, part_of, stamps_path, stem_of
-from ..terminal import edited
+from ..texts import Regular
 
 READERS = {"folder": "folder", "mail": "messages", "packages": "packages"}  # of each kind of import the module that reads a document again
 
@@ -102,7 +100,7 @@ def text_at(found):
         return getattr(fault, "strerror", None) or str(fault)
 
 
-THREAD = re.compile(r"(?<!\S)thread:[!-~]+")
+THREAD = Regular(r"(?<!\S)thread:[!-~]+")
 
 
 def thread_of(text):
@@ -173,6 +171,9 @@ def edit(name, found, text, line):
 
     A file of a folder is opened where it stands; anything else as a copy to be read, of which no change goes anywhere.
     """
+    from ..imports.packed import is_packed
+    from ..terminal import edited
+
     if found.kind == "folder" and not is_packed(found.path):
         return edited(found.path, line)
     with reading_copy(name, "\n".join(whole_lines(found, text)) + "\n") as path:
@@ -182,6 +183,8 @@ def edit(name, found, text, line):
 @contextlib.contextmanager
 def reading_copy(name, content):
     """The path of a file with this content that is named after the document, as long as it is needed."""
+    import tempfile
+
     with tempfile.TemporaryDirectory(prefix="bunco-") as place:
         path = os.path.join(place, re.sub("[^A-Za-z0-9@._+-]", "-", name).lstrip("-.") + ".txt")
         with open(path, "w", encoding="utf-8", errors="surrogateescape") as file:

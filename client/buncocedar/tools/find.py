@@ -29,7 +29,6 @@ from ..shards import is_address
 from ..terminal import paged, quiet_end, why
 from .asking import Asking, answer, knows_top, take
 from .documents import Places
-from .prompt import Prompt
 from .reading import Readable
 from .view import View
 
@@ -154,6 +153,8 @@ def ask(options, view):
         stack.enter_context(quiet_end())
         source = stack.enter_context(Readable(options.index, options.wait, say))
         if options.query is None:
+            from .prompt import Prompt
+
             prompt = stack.enter_context(Prompt("find", "history", PROMPT_WORDS))
             return asking(options, source, prompt, view).run()
         limit = 1 if (options.show or options.edit) and options.limit is None else options.limit

@@ -2,8 +2,9 @@
 
 from __future__ import annotations
 
-import re
 from typing import Dict, Iterator, List, Set
+
+from ..texts import Regular
 
 OPERATORS = {"and": "AND", "or": "OR", "not": "NOT"}
 SIGNS = {"&&": "AND", "&": "AND", "||": "OR", "|": "OR"}
@@ -11,8 +12,8 @@ FIELDS = ("title", "name", "value", "id")  # of a query; the client asks for an 
 # What others call a field, and how that is asked for here.
 ELSEWHERE = {"subject": "title:", "date": "value:20240101..20241231", "body": "a word alone", "text": "a word alone"}
 
-_PIECE = re.compile(r'"[^"]*"?|[()]|[^\s()"]+')
-_FIELD = re.compile(r"([A-Za-z]+):(?=\S)")
+_PIECE = Regular(r'"[^"]*"?|[()]|[^\s()"]+')
+_FIELD = Regular(r"([A-Za-z]+):(?=\S)")
 
 
 def pieces_of(query: str) -> List[str]:

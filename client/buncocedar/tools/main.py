@@ -1,10 +1,7 @@
 """The command `bunco`: one word for each thing that is done with an index."""
 
-from __future__ import annotations
-
 import importlib
 import os
-import shutil
 import signal
 import sys
 from typing import List, NamedTuple, Optional
@@ -65,6 +62,8 @@ def usage() -> str:
 
 def help_on(words: List[str]) -> int:
     """Shows the manual page of a command, or without one the help of all; answers the exit status."""
+    import shutil
+
     from ..terminal import paged, write
     from .manual import page_of
     from .manual import text_of as shown

@@ -8,11 +8,8 @@ from __future__ import annotations
 
 import contextlib
 import os
-import tempfile
 
-from ..copying import locked, write_packed
 from ..errors import InUse
-from ..fileformat import Unusable, read_root
 from ..links import connected
 from ..shards import open_index
 
@@ -36,6 +33,8 @@ class Readable:
 
     def __enter__(self):
         if is_for_reading_only(self.path) and not is_served(self.path):
+            import tempfile
+
             # Where no copy can be made, nothing stays of it.
             with contextlib.ExitStack() as stack:
                 folder = stack.enter_context(tempfile.TemporaryDirectory(prefix="bunco-"))
@@ -63,6 +62,9 @@ def is_served(path):
 
 def private_copy(path, place, patience):
     """Copies an index that nobody has open to a new place, without its free room, and answers how many bytes that has."""
+    from ..copying import locked, write_packed
+    from ..fileformat import Unusable, read_root
+
     try:
         with locked(path, patience) as file, open(place, "wb") as target:
             write_packed(file, read_root(file), target)

@@ -1,7 +1,5 @@
 """How answers are written: rows, snippets, whole documents, paths, and objects for other programs."""
 
-import datetime
-import json
 import os
 import sys
 from typing import List, NamedTuple
@@ -32,6 +30,8 @@ def written_by(fields):
 
 def date_of_file(path):
     """The day of a file's time, where it is still there."""
+    import datetime
+
     try:
         return {"date": datetime.date.fromtimestamp(os.stat(path).st_mtime).isoformat()}
     except (OSError, ValueError, OverflowError):
@@ -76,6 +76,8 @@ class View:
         """Writes one document."""
         options = self.options
         if options.json:
+            import json
+
             self.write(json.dumps({**self.described(number, name), **({} if score is None else {"score": score})}))
         elif options.paths:
             self.show_path(name)
