@@ -404,6 +404,46 @@ class Mail(Case):
         self.assertIn("and deleted", self.main(mail, "--prune", self.path, path))
         self.assertEqual(sorted(self.stored()), ["a@x", "two@x"])
 
+    def test_which_files_are_read_again(self):
+        """Those whose path, size or time is another one, in a Maildir as in a folder of messages; of all others none is opened."""
+        for kind, paths in (("Maildir", ("cur/1:2,S", "cur/2:2,S", "new/3")), ("MH", ("inbox/1", "inbox/2", "inbox/3"))):
+            index, top = self.at(f"{kind}.alta"), self.at(kind)
+            first, second, third = (os.path.join(top, path) for path in paths)
+            for number, path in enumerate(paths, 1):
+                self.write(f"{kind}/{path}", b"Message-ID: <%d@x>\nSubject: s\n\ntext %d\n" % (number, number))
+
+            def night(*words):
+                opened, open_file = [], archives.opened
+                with mock.patch.object(archives, "opened", lambda path: opened.append(path) or open_file(path)):
+                    said = self.main(mail, *words, index, top)
+                return said.splitlines()[0].partition(": ")[2], sorted(set(opened))
+
+            with self.subTest(kind):
+                self.assertEqual(night(), ("3 documents: 3 added", sorted((first, second, third))))
+                self.assertEqual(night(), ("3 documents: 0 added, 3 unchanged", []))
+                # Written again where it stands: of the same length, and then with the time that it had.
+                before = os.stat(second)
+                self.write(f"{kind}/{paths[1]}", b"Message-ID: <2@x>\nSubject: s\n\ntext T\n")
+                os.utime(second, ns=(before.st_atime_ns, before.st_mtime_ns + 1))
+                self.assertEqual(night(), ("3 documents: 0 added, 1 changed, 2 unchanged", [second]))
+                before = os.stat(second)
+                self.write(f"{kind}/{paths[1]}", b"Message-ID: <2@x>\nSubject: s\n\nlonger text\n")
+                os.utime(second, ns=(before.st_atime_ns, before.st_mtime_ns))
+                self.assertEqual(night(), ("3 documents: 0 added, 1 changed, 2 unchanged", [second]))
+                # Renamed, in a Maildir by a flag.
+                flagged = f"{first.partition(':')[0]}:2,FS"
+                os.rename(first, flagged)
+                what = "1 changed, 2 unchanged" if kind == "Maildir" else "3 unchanged"
+                self.assertEqual(night(), (f"3 documents: 0 added, {what}", [flagged]))
+                self.assertEqual(night(), ("3 documents: 0 added, 3 unchanged", []))
+                # Gone, and a new one.
+                os.remove(third)
+                fourth = self.write(f"{kind}/{os.path.dirname(paths[1])}/4:2,", b"Message-ID: <4@x>\n\ntext 4\n")
+                self.assertEqual(night("--prune"), ("3 documents: 1 added, 2 unchanged", [fourth]))
+                self.path = index
+                self.assertEqual(self.bodies(), {"1@x": "text 1", "2@x": "longer text", "4@x": "text 4"})
+                self.assertEqual(night(), ("3 documents: 0 added, 3 unchanged", []))
+
     def test_what_the_index_has_lost(self):
         """It is read again, also from an archive that nobody has touched."""
         path = self.write("mail.mbox", LETTER % (b"one", b"one", b"one") + b"\n" + LETTER % (b"two", b"two", b"two"))
@@ -441,12 +481,15 @@ class Mail(Case):
 
     def test_another_message_of_one_name(self):
         """One that comes before the one that the index has leaves that one in it."""
-        self.write("Mail/cur/m", b"Message-ID: <a@x>\n\nfirst\n")
-        self.main(mail, self.path, self.at("Mail"))
-        self.write("Mail/cur/a", b"Message-ID: <a@x>\n\nother\n")
-        self.main(mail, self.path, self.at("Mail"))
-        self.assertEqual(sorted(self.bodies().values()), ["first", "other"])
-        self.assertIn("0 added, 2 unchanged", self.main(mail, self.path, self.at("Mail")))
+        for number, (known, other) in enumerate((("cur/m", "cur/a"), ("cur/m", "new/n"), ("new/m", "cur/n"))):
+            path, top = self.at(f"{number}.alta"), self.at(f"Mail{number}")
+            self.write(f"Mail{number}/{known}", b"Message-ID: <a@x>\n\nfirst\n")
+            self.main(mail, path, top)
+            self.write(f"Mail{number}/{other}", b"Message-ID: <a@x>\n\nother\n")
+            self.main(mail, path, top)
+            self.path = path
+            self.assertEqual(sorted(self.bodies().values()), ["first", "other"], (known, other))
+            self.assertIn("0 added, 2 unchanged", self.main(mail, path, top), (known, other))
 
     def test_notes(self):
         """What an archive notes of a message is found, and is no other message."""

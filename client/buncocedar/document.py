@@ -1,6 +1,6 @@
 """What an import takes: a document, the text of it, and why there is none."""
 
-from typing import Callable, NamedTuple, Optional, Tuple
+from typing import Any, Callable, List, NamedTuple, Optional, Tuple
 
 TEXT_LIMIT = 33_554_432  # bytes of a text that are looked at
 
@@ -29,9 +29,6 @@ class Document(NamedTuple):
     `former` are the stamps that older versions gave it, where those were others. `mark` is the size and time of the file that
     the document is, by which the next run knows it without reading it. `notes` are words for what its archive notes of it:
     a document with other notes is brought in again, and is the same. `size` is about how many bytes `load` reads.
-
-    Where `known` is given, nothing has changed at the place of the document of that name, and `load` answers the `Document` that
-    is read there.
     """
 
     wanted: str
@@ -42,8 +39,17 @@ class Document(NamedTuple):
     former: Tuple[bytes, ...] = ()
     mark: str = ""
     notes: str = ""
-    known: str = ""
     size: int = 0
+
+
+class Unchanged(NamedTuple):
+    """Documents of a source that are as they were, and were not read: of each its place and its name.
+
+    `read` answers the `Document` that is read at a place, or None where there is none.
+    """
+
+    names: List[Tuple[str, str]]
+    read: Callable[[str], Any]
 
 
 class Unfit(Exception):

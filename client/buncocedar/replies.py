@@ -81,15 +81,16 @@ Value = TypeVar("Value")  # of a reply
 
 
 class Lines(NamedTuple):
-    """The lines of a reply before its last one: their form, and what is made of one."""
+    """The lines of a reply before its last one: their form, and what is made of one. No last line has a form that is `apart`."""
 
     form: Regular
     made: Callable[[re.Match], Any]
+    apart: bool = True
 
 
 ROWS = Lines(Regular(f"{NUMBER} ([!-~]{{1,64}})"), lambda line: (int(line[1]), line[2]))
 SCORED = Lines(Regular(f"{NUMBER} ([!-~]{{1,64}}) {NUMBER}"), lambda line: Scored(int(line[1]), line[2], int(line[3])))
-TEXTS = Lines(Regular(".*", re.DOTALL), lambda line: line[0])
+TEXTS = Lines(Regular(".*", re.DOTALL), lambda line: line[0], apart=False)
 DUMPED = Lines(
     Regular(f"add ([!-~]{{1,64}})\t([^\t]*)\t(.*)|skipped {NUMBER} ([!-~]{{1,64}})", re.DOTALL),
     lambda line: Skipped(int(line[4]), line[5]) if line[1] is None else Dumped(line[1], line[2], line[3]),
@@ -174,6 +175,12 @@ class Reply(Generic[Value]):
 
     def take(self, line):
         """Takes the next line of the reply, and tells whether it was the last."""
+        if self._begun and self._lines and self._lines.apart and not self._error:
+            # Nearly all lines are such rows.
+            row = self._lines.form.fullmatch(line)
+            if row:
+                self.rows.append(self._lines.made(row))
+                return False
         first = not self._begun
         self._begun = True
         if first and line.startswith("! "):

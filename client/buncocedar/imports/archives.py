@@ -6,8 +6,10 @@
 # A folder that has no `cur` and no `new` is walked: each file is an mbox or a message by its first lines, as MH, Thunderbird
 # and mutt keep them, and anything else is passed over.
 #
-# A message of a Maildir never changes under its name, and an mbox mostly grows. So what was brought in before is not read
-# again: a file by its size and time, and of an mbox the front up to its last message by its digest.
+# What was brought in before is not read again: a file whose path, size and time are as they were, and of an mbox, which mostly
+# grows, the front up to its last message by its digest. A mail reader notes flags in a message's name, which is another path
+# then. The folders are listed and each file is asked for its size each time: the time of a folder says nothing of a file in it
+# that was written again.
 
 import contextlib
 import errno
@@ -19,9 +21,9 @@ import re
 import stat
 from typing import NamedTuple
 
-from ..document import NoText, Unfit, Unseen
+from ..document import NoText, Unchanged, Unseen
 from .packed import FAULTS, is_packed, opened
-from .stamps import FileMark, Place
+from .stamps import FileMark, Place, mark_of, place_of, spelled_path
 
 DATED = re.compile(
     rb"From .* (?:Mon|Tue|Wed|Thu|Fri|Sat|Sun)\b.{0,9}\b(?:Jan|Feb|Mar|Apr|May|Jun|Jul|Aug|Sep|Oct|Nov|Dec)\b.{0,24}\d:\d\d"
@@ -41,14 +43,12 @@ MAILDIR = ("cur", "new")
 class Entry(NamedTuple):
     """A message of an archive: where it stands, as `stamps.Place` spells it, and its bytes or why there are none.
 
-    `mark` is the size and time of its file, where it has one of its own. `name` is that of the document that was made of it
-    before, where nothing of it has changed; `raw` is a call then, that reads it.
+    `mark` is the size and time of its file, where it has one of its own.
     """
 
     place: str
     raw: object
     mark: str = ""
-    name: str = ""
 
 
 # --- An mbox.
@@ -86,12 +86,12 @@ def is_beginning(line, following, blank):
 
 
 def mbox(path, below, known):
-    """The messages of an mbox; of those that are known and stand in a front that is as it was, the names."""
+    """The messages of an mbox; those that are known and stand in a front that is as it was are given together, unread."""
     found = os.stat(path)
     with opened(path) as file:
         passed, front = known_front(file, found, below, known)
-        for begin, place, name in passed:
-            yield Entry(place, functools.partial(read_piece, path, place), name=name)
+        if passed:
+            yield Unchanged([(place, name) for _, place, name in passed], functools.partial(piece, path))
         if front is None:
             return
         file.seek(front)
@@ -122,11 +122,12 @@ def known_front(file, found, below, known):
     return [], 0
 
 
-def read_piece(path, place):
+def piece(path, place):
+    """The message at a place of an mbox."""
     begin, length = map(int, place.rpartition("@")[2].split("+"))
     with opened(path) as file:
         file.seek(begin)
-        return file.read(length)
+        return Entry(place, file.read(length))
 
 
 def front_of(file, last):
@@ -150,94 +151,142 @@ def digest_of_front(file, length):
 # --- Folders.
 
 
+class Listed(NamedTuple):
+    """A folder that may have messages: its path, that below the archive's, and the names of its files.
+
+    `is_maildir` says that it is one of those in which a Maildir has its messages; `home` is then the Maildir, and else its path.
+    """
+
+    path: str
+    below: str
+    names: list
+    is_maildir: bool
+    home: str
+
+    def path_of(self, name):
+        return f"{self.path}/{name}"
+
+    def below_of(self, name):
+        return name if self.below == "." else f"{self.below}/{name}"
+
+    def stays(self, name):
+        """What of a file's path stays as it is read: a message of a Maildir is moved from `new` to `cur`, and gets flags in its name."""
+        return self.home, name.partition(":")[0] if self.is_maildir else name
+
+
 def folder(top, known):
     """The messages of a folder and of those in it.
 
     Who reads mail meanwhile moves and renames messages. So the folders are listed again until nothing in them is new, a few times
     at most; what is missing then, or cannot be read, comes last.
     """
-    met = set()
+    met, whole, is_mail = set(), {}, False
     for _ in range(LOOKS):
         faults, fresh = {}, set()
-        for identity, path, below, entries in files(top, faults):
-            if identity in met:
+        for listed in folders(top, faults):
+            if whole.get(listed.path) == listed.names:
                 continue
-            fault = yield from without_fault(entries(path, below, known))
-            if fault is None:
-                fresh.add(identity)
-            else:
-                faults[below] = fault
+            names = sorted(name for name in listed.names if not met or listed.stays(name) not in met)
+            before = len(faults)
+            is_mail = (yield from messages_in(listed._replace(names=names), known, fresh, faults)) or is_mail
+            if len(faults) == before:
+                whole[listed.path] = listed.names
         if not fresh:
             break
         met |= fresh
+    if not is_mail:
+        faults.setdefault(".", Unseen("no mail: it has no folder cur or new, and no file of messages"))
     for below, fault in faults.items():
-        yield Entry(Place(below).spelled(), fault)
+        yield Entry(spelled_path(below), fault)
+
+
+def folders(top, faults):
+    """The folders that may have messages. What is not looked into goes to the faults, by its path below the first one."""
+    for path, inner, names in os.walk(top, onerror=lambda error: faults.update({relative(error.filename, top): Unseen(error.strerror)})):
+        has_mail = any(name in inner for name in MAILDIR)
+        # What is moved from new to cur meanwhile stands in one of the lists, or in both.
+        inner[:] = sorted((name for name in inner if not (has_mail and name == "tmp")), key=lambda name: (name == "cur", name))
+        links = filter(os.path.islink, (os.path.join(path, name) for name in inner))
+        faults.update((relative(link, top), NoText("a link to a folder")) for link in links)
+        is_maildir = os.path.basename(os.path.abspath(path)) in MAILDIR
+        if is_maildir or not has_mail:
+            yield Listed(path, relative(path, top), names, is_maildir, os.path.dirname(path) if is_maildir else path)
+
+
+def messages_in(listed, known, met, faults):
+    """Yields the messages of the files of a folder, the known ones first and together, and answers whether it has any.
+
+    What stays of the path of each goes to those that were met; a file that has none or can't be looked at to the faults.
+    """
+    unchanged, others = [], []
+    stat_of = os.stat if listed.is_maildir else os.lstat
+    for name in listed.names:
+        below = listed.below_of(name)
+        try:
+            found = stat_of(listed.path_of(name))
+        except OSError as error:
+            faults[below] = Unseen(error.strerror)
+            continue
+        place = spelled_path(below)
+        document = known.name_at(place, found)
+        if document is None:
+            others.append(name)
+        else:
+            unchanged.append((place, document))
+            met.add(listed.stays(name))
+    is_mail = listed.is_maildir or bool(unchanged)
+    if unchanged:
+        yield Unchanged(unchanged, functools.partial(message_at, listed))
+    for name in others:
+        path, below = listed.path_of(name), listed.below_of(name)
+        fault = None if listed.is_maildir else fault_of(path)
+        if fault is None:
+            is_mail = True
+            fault = yield from without_fault((message_file if listed.is_maildir else any_file)(path, below, known))
+        if fault is None:
+            met.add(listed.stays(name))
+        else:
+            faults[below] = fault
+    return is_mail
+
+
+def message_at(listed, place):
+    """The message of the file at a place of a folder that was listed."""
+    below = place_of(place).path
+    return message_file(listed.path_of(os.path.basename(below)), below)[0]
 
 
 def without_fault(entries):
     """Yields the messages, and answers why a part of them could not be looked at, where that is so."""
     fault = None
     for entry in entries:
-        if isinstance(entry.raw, Unseen):
+        if isinstance(entry, Entry) and isinstance(entry.raw, Unseen):
             fault = entry.raw
         else:
             yield entry
     return fault
 
 
-def files(top, faults):
-    """The files of a folder that may have messages: of each what of its path stays as it is read, its path, that below the folder,
-    and the call that reads it.
-
-    What is not looked into goes to the faults, by its path below the folder.
-    """
-    is_mail = False
-    for path, folders, names in os.walk(top, onerror=lambda error: faults.update({relative(error.filename, top): Unseen(error.strerror)})):
-        below = relative(path, top)
-        is_maildir = any(name in folders for name in MAILDIR)
-        # What is moved from new to cur meanwhile stands in one of the lists, or in both.
-        folders[:] = sorted((name for name in folders if not (is_maildir and name == "tmp")), key=lambda name: (name == "cur", name))
-        links = filter(os.path.islink, (os.path.join(path, name) for name in folders))
-        faults.update((relative(link, top), NoText("a link to a folder")) for link in links)
-        if os.path.basename(os.path.abspath(path)) in MAILDIR:
-            is_mail = True
-            parent, front = os.path.dirname(path), beneath(below, "")
-            for name in sorted(names):
-                yield (parent, name.partition(":")[0]), f"{path}/{name}", front + name, message_file
-        elif not is_maildir:
-            for name in sorted(names):
-                file = os.path.join(path, name)
-                if may_be_mail(file, faults, top):
-                    is_mail = True
-                    yield (path, name), file, beneath(below, name), any_file
-    if not is_mail:
-        faults.setdefault(".", Unseen("no mail: it has no folder cur or new, and no file of messages"))
-
-
 def relative(path, top):
     return os.path.relpath(path, top)
 
 
-def beneath(below, name):
-    return name if below == "." else os.path.join(below, name)
-
-
-def may_be_mail(path, faults, top):
-    """Whether a file of a folder that is no Maildir has messages; why not goes to the faults."""
+def fault_of(path):
+    """Why a file of a folder that is no Maildir has no messages, or None where it has some."""
     try:
         if os.path.islink(path):
-            raise NoText("a link to a file")
+            return NoText("a link to a file")
         if not stat.S_ISREG(os.stat(path).st_mode):
-            raise NoText("no regular file")
+            return NoText("no regular file")
         with opened(path) as file:
-            if not is_mail_head(file.read(HEAD_LOOK)):
-                raise NoText("no mail")
-        return True
-    except Unfit as fault:
-        faults[relative(path, top)] = fault
+            return None if is_mail_head(file.read(HEAD_LOOK)) else NoText("no mail")
     except (OSError, *FAULTS) as error:
-        faults[relative(path, top)] = Unseen(getattr(error, "strerror", None) or f"it can't be unpacked: {error}")
-    return False
+        return unread(error)
+
+
+def unread(error):
+    """Why a file could not be read, that is there or was."""
+    return Unseen(getattr(error, "strerror", None) or f"it can't be unpacked: {error}")
 
 
 def is_mail_head(head):
@@ -251,16 +300,15 @@ def is_mail_head(head):
     return all(FIELD.match(line) or line[:1] in b" \t" for line in fields) and any(map(FIRST.match, fields))
 
 
-def message_file(path, below, known):
+def message_file(path, below, known=None):
     """The one message of a file, in a list."""
-    place = Place(below).spelled()
+    place = spelled_path(below)
     try:
-        found = os.stat(path)
+        # Its time comes first, so that what is written meanwhile is read by the next run.
+        mark = mark_of(os.stat(path))
     except OSError as error:
-        return [Entry(place, Unseen(error.strerror))]
-    mark = f"{found.st_size} {found.st_mtime_ns}"
-    name = known.name_at(place, mark)
-    return [Entry(place, functools.partial(content_of, path), mark, name) if name else Entry(place, content_of(path), mark)]
+        return [Entry(place, unread(error))]
+    return [Entry(place, content_of(path), mark)]
 
 
 def any_file(path, below, known):
@@ -270,7 +318,7 @@ def any_file(path, below, known):
             is_mbox = file.read(5) == b"From "
         yield from (mbox if is_mbox else message_file)(path, below, known)
     except (OSError, *FAULTS) as error:
-        yield Entry(Place(below).spelled(), Unseen(getattr(error, "strerror", None) or f"it can't be unpacked: {error}"))
+        yield Entry(spelled_path(below), unread(error))
 
 
 def content_of(path):
@@ -279,7 +327,7 @@ def content_of(path):
         with opened(path) as file:
             return file.read()
     except (OSError, *FAULTS) as error:
-        return Unseen(getattr(error, "strerror", None) or f"it can't be unpacked: {error}")
+        return unread(error)
 
 
 # --- Archives.

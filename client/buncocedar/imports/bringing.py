@@ -6,6 +6,7 @@
 
 import argparse
 import contextlib
+import gc
 import os
 import signal
 import sys
@@ -92,12 +93,26 @@ def bring_into(log, path, sources, options):
         for number, (source, documents) in enumerate(sources, 1):
             if len(sources) > 1:
                 log.say(f"{source.path}:")
-            work = Import(index, stamps, source, options, log, makers)
+            with lasting():
+                work = Import(index, stamps, source, options, log, makers)
             work.run(documents(work.known) if callable(documents) else documents, interrupts)
             statuses.append(ended(work.summary, index, interrupts, number == len(sources)))
             if statuses[-1] not in (0, SOME_REFUSED):
                 break
     return max(statuses)
+
+
+@contextlib.contextmanager
+def lasting():
+    """What is made meanwhile is needed up to the end: the collector of what nobody needs does not look through it time and again."""
+    was_enabled = gc.isenabled()
+    gc.disable()
+    try:
+        yield
+    finally:
+        gc.freeze()
+        if was_enabled:
+            gc.enable()
 
 
 def ended(done, index, interrupts, is_last):

@@ -25,7 +25,7 @@ import os
 from collections import deque
 from typing import NamedTuple, Optional
 
-from ..document import TEXT_LIMIT, NoText
+from ..document import TEXT_LIMIT, NoText, Unchanged
 from ..errors import Error, Refused
 from ..fileformat import HALF, LEVELS, Unusable, level_count
 from ..index import Index
@@ -34,7 +34,7 @@ from .log import several
 from .making import Job, Makers
 from .naming import GONE, Naming, stands
 from .parts import size
-from .stamps import Place, Stamp, below, is_numbered, name_of, part_name, part_of, place_of, stem_of
+from .stamps import NOT_THERE, PART, Place, Stamp, below, is_numbered, name_of, part_name, part_of, place_of, stem_of
 from .summary import Summary
 
 EVERY_DOCUMENT = "NOT name:! OR name:!"
@@ -139,8 +139,8 @@ class Import:
         self.look_for_losses()
 
     def note_part(self, name):
-        stem, number = part_of(name) or (None, 0)
-        if stem is not None:
+        if PART in name and (part := part_of(name)):
+            stem, number = part
             self.parts[stem] = max(number, self.parts.get(stem, 0))
 
     def note_move(self, kind, path):
@@ -171,19 +171,15 @@ class Import:
 
     def take(self, document):
         """Brings one document in, or only counts it where the program has ended."""
-        if document.known:
-            if self.is_passed(document):
-                return
-            document = document.load()
-            if document is None:
-                return
         chosen = self.naming.choose(document)
         name, _, kind, moved = chosen
         if moved is not None:
             self.move(name, moved)
         if kind in ("unchanged", "repeated"):
             self.summary.counts[kind] += 1
-            self.note_repeat(document, name, kind)
+            if kind == "repeated":
+                mark = self.known.marked(document.mark) or self.known.places.get(document.place, NOT_THERE)[1]
+                self.note_repeat(document.place, name, mark)
         elif self.summary.end is not None:
             self.summary.leave(name)
         else:
@@ -191,18 +187,26 @@ class Import:
             self.chosen[name] = (chosen, document)
             self.makers.put(Job(name, document.load, not document.exact, self.options.whole), document.size)
 
-    def is_passed(self, document):
-        """Counts a document that stands where it stood, unread, where its name still is its own; tells whether it is."""
-        name = document.known
+    def take_unchanged(self, unchanged):
+        """Counts documents that stand where they stood, unread; one whose name is another's meanwhile is read, and taken."""
+        for place, name in unchanged.names:
+            if not self.is_passed(place, name):
+                document = unchanged.read(place)
+                if document is not None:
+                    self.take(document)
+
+    def is_passed(self, place, name):
+        """Counts a document that stands where it stood, where its name still is its own; tells whether it is."""
         stamp = self.stamps.of.get(name)
         if stamp is None or name in self.anew:
             return False
         kind = "repeated" if name in self.naming.used else "unchanged"
         self.naming.used[name] = stamp.stamp
-        if kind == "unchanged" and (stamp.source, stamp.place) != (self.source, document.place):
-            self.move(name, stamp._replace(source=self.source, place=document.place, mark=self.known.places[document.place][1]))
         self.summary.counts[kind] += 1
-        self.note_repeat(document, name, kind)
+        if kind == "repeated":
+            self.note_repeat(place, name, self.known.places[place][1])
+        elif stamp.place != place or stamp.source != self.source:
+            self.move(name, stamp._replace(source=self.source, place=place, mark=self.known.places[place][1]))
         return True
 
     def move(self, name, moved):
@@ -212,13 +216,11 @@ class Import:
             self.stamps.put_repeat(known.source, known.place, name, known.mark)
         self.stamps.put({name: moved})
 
-    def note_repeat(self, document, name, kind):
+    def note_repeat(self, place, name, mark):
         """Notes where else a document stands, so that the next run need not read it there."""
-        if kind == "repeated":
-            mark = self.known.marked(document.mark) or self.known.places.get(document.place, ("", ""))[1]
-            self.repeated.add(document.place)
-            if self.known.places.get(document.place) != (name, mark):
-                self.stamps.put_repeat(self.source, document.place, name, mark)
+        self.repeated.add(place)
+        if self.known.places.get(place) != (name, mark):
+            self.stamps.put_repeat(self.source, place, name, mark)
 
     def send_made(self, all_of_them=False):
         """Sends the documents whose lines are made, all that were taken or those that are there."""
@@ -344,7 +346,7 @@ class Import:
         """Brings the documents in up to their end, an interrupt, or a fault, and takes the replies under way."""
         try:
             for document in interrupts.each(documents):
-                self.take(document)
+                (self.take_unchanged if isinstance(document, Unchanged) else self.take)(document)
                 if self.chosen or self.sent:
                     self.send_made()
                     if self.options.may_pause:
@@ -389,8 +391,9 @@ class Import:
         self.stamps.flush()
         kind = self.stamps.sources[self.source].kind
         others = {}
-        for name, stamp in list(self.stamps.of.items()):
-            if name in self.naming.used or not self.naming.counts_for(name, stamp) or not self.is_of_kind(kind, name, stamp):
+        for name in [name for name in self.stamps.of if name not in self.naming.used]:
+            stamp = self.stamps.of[name]
+            if not self.naming.counts_for(name, stamp) or not self.is_of_kind(kind, name, stamp):
                 continue
             archive = self.stamps.archive(stamp)
             if stamp.source in self.sources and archive in self.archives:

@@ -13,7 +13,7 @@ import functools
 import os
 import sys
 
-from ..document import Unfit
+from ..document import Unchanged, Unfit
 from ..terminal import printable, quiet_end, write
 from . import archives
 from .bringing import BAD_USE, STOPPED, bring_as, parser_of
@@ -22,8 +22,19 @@ from .stamps import Known, Source, digest, name_of, numbered, part_of, stem_of
 
 
 def documents(path, known, attached=True):
-    """A document for each message of an archive."""
-    return filter(None, (document_of(entry, attached) for entry in archives.messages(path, known)))
+    """The documents of an archive: one for each message, and those together that are as they were."""
+    for entry in archives.messages(path, known):
+        if isinstance(entry, Unchanged):
+            yield entry._replace(read=functools.partial(document_at, entry.read, attached))
+        else:
+            document = document_of(entry, attached)
+            if document is not None:
+                yield document
+
+
+def document_at(read, attached, place):
+    """The document of the message that this call reads at a place."""
+    return document_of(read(place), attached)
 
 
 # --- Back to a message.

@@ -135,16 +135,9 @@ def form_of(attached):
     return FORM if attached else FORM + WITHOUT_ATTACHED
 
 
-def document_again(entry, attached):
-    """The document of a message that was brought in before, which is read."""
-    return document_of(entry._replace(raw=entry.raw(), name=""), attached)
-
-
 def document_of(entry, attached=True):
     """The document of a message, None where it is nothing but blanks."""
     raw = entry.raw
-    if entry.name:
-        return Document(entry.name, b"", functools.partial(document_again, entry, attached), entry.place, known=entry.name)
     path = place_of(entry.place).path
     if isinstance(raw, Unfit):
         return Document(path or ".", entry.place.encode(), functools.partial(raised, raw), entry.place)

@@ -68,8 +68,8 @@ class Naming:
         self.used = {}
         self.numbers = {}  # of a wanted name the first number that may be free, where that is not 1
         self.later = {}  # of the front of a wanted name, and a stamp, the names with a number
-        for name, stamp in records.of.items():
-            self._note_number(name, stamp.stamp)
+        for name in [name for name in records.of if "~" in name]:
+            self._note_number(name, records.of[name].stamp)
 
     def counts_for(self, name, stamp):
         """Whether a stamp counts: the index has all its parts."""

@@ -68,9 +68,11 @@ COLUMNS = "numbers, stamp, source, place, content, mark, notes"
 MOMENT = "moment"  # the column behind these, which an older version had not
 
 _NAME = "[!-~]{1,64}"
-_PART = Regular("(.+)~p([1-9][0-9]*)", re.DOTALL)
+PART = "~p"  # what stands before the number in the name of a part behind the first
+_PART = Regular(f"(.+){PART}([1-9][0-9]*)", re.DOTALL)
 _NUMBERED = Regular(".+~([1-9][0-9]*)", re.DOTALL)
 _QUOTED = Regular(rb"[^A-Za-z0-9_.~/-]")
+_SPELLED = [chr(code) if re.match("[A-Za-z0-9_.~/-]", chr(code)) else f"%{code:02X}" for code in range(128)]
 _PLACE = Regular(r"([^@]*)(?:@([0-9]+)\+([0-9]+))?")
 # The lines of an older version.
 _STAMP = Regular(f"({_NAME}) ([1-9][0-9]*(?:,[1-9][0-9]*)*) ([0-9a-f]{{32}}) ([0-9a-f]{{8}})(?: (?=[!-~])([!-?A-~]*(?:@[0-9]+\\+[0-9]+)?)(?: ([0-9a-f]{{32}}))?)?".encode())
@@ -117,7 +119,7 @@ def stem_of(name):
 
 def part_name(name, number):
     """The name of a part of a document, counted from 1: the first has the document's own."""
-    return name if number == 1 else f"{stem_of(name)}~p{number}"
+    return name if number == 1 else f"{stem_of(name)}{PART}{number}"
 
 
 def part_of(name):
@@ -143,6 +145,8 @@ class Place(NamedTuple):
 
 def spelled_path(path):
     """A path as in URLs: what `quote` of the standard library gives, which looks at each byte where one is no letter."""
+    if path.isascii():
+        return path.translate(_SPELLED)
     return _QUOTED.sub(lambda byte: b"%%%02X" % ord(byte[0]), os.fsencode(path)).decode()
 
 
@@ -210,6 +214,14 @@ class FileMark(NamedTuple):
         return (self.size, self.mtime) == (found.st_size, found.st_mtime_ns)
 
 
+def mark_of(found):
+    """By what a file of one document is known again: its size and time."""
+    return f"{found.st_size} {found.st_mtime_ns}"
+
+
+NOT_THERE = (None, "")  # in place of a name and a mark
+
+
 class Known:
     """What of a source need not be read again; `noted` has the marks of the files that this run has read to their end.
 
@@ -226,10 +238,10 @@ class Known:
         """A mark as it is kept: behind the form in which an import makes its documents."""
         return f"{self.form} {mark}" if mark else ""
 
-    def name_at(self, place, mark):
-        """The name of the document whose file is as it was, None where it is not."""
-        name, known = self.places.get(place, (None, ""))
-        return name if known and known == self.marked(mark) else None
+    def name_at(self, place, found):
+        """The name of the document at a place whose file, of this `os.stat_result`, is as it was; None where it is not."""
+        name, mark = self.places.get(place, NOT_THERE)
+        return name if mark and mark == f"{self.form} {mark_of(found)}" else None
 
     def file(self, path):
         """The mark of a file of many documents, None where it was not read to its end in this form."""
@@ -462,7 +474,7 @@ def has_moments(base):
 
 def stamp_of(row):
     numbers, *rest = row
-    return Stamp(tuple(map(int, numbers.split(","))) if "," in numbers else (int(numbers),), *rest)
+    return Stamp._make((tuple(map(int, numbers.split(","))) if "," in numbers else (int(numbers),), *rest))
 
 
 def row_of(stamp):
