@@ -27,7 +27,7 @@ from support import BUNCO, PATIENCE, run_tests, until  # isort: skip
 
 import buncocedar
 import fake
-from buncocedar import AsyncIndex, Index, InUse
+from buncocedar import AsyncIndex, Index, InUse, copying
 from buncocedar.beside import give_rights
 from buncocedar.fileformat import HEAD, level_count
 from buncocedar.server import IDLE_SECONDS, LEVELS_KEPT, LINES_AHEAD, Server, Stopped, batches
@@ -385,6 +385,11 @@ class Ends(Case):
                 with self.assertRaisesRegex(InUse, "does not answer"):
                     Index(self.path, program=self.program, patience=0.7, on_wait=told.append)
                 self.assertEqual(len(told), 1)
+                with self.assertRaisesRegex(InUse, "open in process [0-9]+ .* within 0.1 seconds: it is busy with a long line.*a longer wait may do"):
+                    Index(self.path, program=self.program, patience=0)
+                with unittest.mock.patch.multiple(copying, SECONDS_BETWEEN_LOOKS=0.1, SECONDS_TO_CONNECT=0.2), open(os.devnull, "wb") as file:
+                    with self.assertRaisesRegex(copying.NotHad, f"{self.path}: its server does not answer: it is stopped"):
+                        copying.copy_into(self.path, file)
                 status = subprocess.run([sys.executable, BUNCO, "status", self.path, "--wait", "0.1"], capture_output=True, text=True, timeout=PATIENCE)
                 self.assertEqual((status.returncode, "Traceback" in status.stderr), (3, False))
                 waiting = []
@@ -402,6 +407,32 @@ class Ends(Case):
             server.send_signal(signal.SIGCONT)
         with self.index() as index:
             self.assertEqual(index.count("x"), 0)
+
+    def test_a_copy_that_takes_long(self):
+        """It is waited for as long as the server answers others."""
+        open(self.path, "wb").close()
+        told = []
+
+        def serve(listener):
+            copied = listener.accept()[0]
+            told.append(copied.recv(100))
+            for _ in range(3):
+                with listener.accept()[0] as other:
+                    told.append(other.recv(100))
+                    other.sendall(b"figures clients 2 waiting 0 cursors 0\n")
+            copied.sendall(b"copied 5 1")
+            copied.sendall(b" 2\n")
+            copied.close()
+
+        with socket.socket(socket.AF_UNIX) as listener:
+            listener.bind(self.socket)
+            listener.listen()
+            thread = threading.Thread(target=serve, args=[listener])
+            thread.start()
+            with unittest.mock.patch.object(copying, "SECONDS_BETWEEN_LOOKS", 0.05), open(os.devnull, "wb") as file:
+                self.assertEqual(copying.copy_into(self.path, file), copying.Copied(5, [1, 2]))
+            thread.join(PATIENCE)
+        self.assertEqual(told, [b"copy\n", *3 * [b"figures\n"]])
 
     def test_what_is_no_end(self):
         # A file that can't be read, and a program that is too old to join levels: the server goes on.

@@ -17,10 +17,12 @@ from typing import List, NamedTuple
 from .beside import making
 from .fileformat import HALF, HEAD, SLOT, Unusable, read_journal, read_root
 from .imports.stamps import JOURNAL, Records, stamps_path
-from .links import connected
+from .errors import InUse
+from .links import FIGURES_LINE, SECONDS_TO_CONNECT, asked, connected
 
 CHUNK = 1 << 20
 NO_COPY = "! copy "  # how a server begins to say why it makes none
+SECONDS_BETWEEN_LOOKS = 5.0  # in a wait for a copy by a server, whether that goes on
 
 
 @contextlib.contextmanager
@@ -91,25 +93,27 @@ class Copied(NamedTuple):
 def copy_into(path, target, patience=10.0):
     """Writes the index at a path into an open file, without its holes: by its server, or while nobody has it open.
 
-    Raises `Unusable` where it is damaged, no plain file, or in use for longer than so many seconds.
+    Raises `Unusable` where it is damaged, no plain file, or in use for longer than so many seconds, and where its server does not answer.
     """
-    service = connected(path)
-    if service is not None:
-        return served_copy(service, target)
+    try:
+        service = connected(path)
+        if service is not None:
+            return served_copy(path, service, target)
+    except InUse as fault:
+        raise NotHad(str(fault)) from None
     with locked(path, patience) as file:
         root = read_root(file)
         write_packed(file, root, target)
         return Copied(target.tell(), [extent.place for extent in root.extents()])
 
 
-def served_copy(service, target):
-    """Has the server behind a link write its index into an open file."""
-    connection = service.connection
-    connection.setblocking(True)
-    with connection, connection.makefile("rb") as replies:
+def served_copy(path, service, target):
+    """Has the server behind a link write its index into an open file; raises `InUse` where it does not answer others either."""
+    with service.connection as connection:
         try:
+            connection.settimeout(SECONDS_BETWEEN_LOOKS)
             socket.send_fds(connection, [b"copy\n"], [target.fileno()])
-            reply = replies.readline().decode(errors="replace").rstrip("\n")
+            reply = late_line(path, connection).decode(errors="replace").rstrip("\n")
         except ConnectionError:
             reply = ""
     if reply.startswith(NO_COPY):
@@ -119,6 +123,21 @@ def served_copy(service, target):
         raise NotHad("its server is an older one, which makes no copy" if reply == "! unknown command" else "its server has ended")
     target.seek(0, os.SEEK_END)
     return Copied(int(told[1]), list(map(int, told[2].split())))
+
+
+def late_line(path, connection):
+    """The line that comes from the server of an index, however long its work takes, as long as it answers another client."""
+    line = b""
+    while not line.endswith(b"\n"):
+        try:
+            piece = connection.recv(CHUNK)
+        except socket.timeout:
+            asked(path, FIGURES_LINE, SECONDS_TO_CONNECT)
+            continue
+        if not piece:
+            break
+        line += piece
+    return line
 
 
 def sync_folder(path):

@@ -92,7 +92,11 @@ class Index(Commands):
         try:
             reply = self.send_stats()
             if waiting is not None and not waiting.comes(reply, SECONDS_FOR_A_SERVER):
-                raise InUse(f"{in_use(self.path)}: its server does not answer: it is busy or stopped")
+                seconds = max(waiting.patience, SECONDS_FOR_A_SERVER)
+                raise InUse(
+                    f"{in_use(self.path)}: its server does not answer within {seconds:g} seconds: it is busy with a long line, as a merge, or "
+                    "it is stopped; a longer wait may do (--wait of a command, `patience` of a call)"
+                )
             reply.result()
             self._exchange.opened = True
         except BaseException:

@@ -15,6 +15,7 @@ from .texts import Regular
 
 LOG = "buncocedar"  # the log of what a program says that is no reply and no end; without a handler it goes to standard error
 SECONDS_TO_CONNECT = 10.0  # that a server has to take a client
+FIGURES_LINE = b"figures"  # a line of the server's own: how many clients it has, and what waits
 SECONDS_TO_END = 5  # that a program has to end, once it can read no more lines
 
 
@@ -246,6 +247,25 @@ def connected(path, seconds=SECONDS_TO_CONNECT):
     except OSError:
         # None was started, or the path is too long for one, or it was killed and the socket's file is what it left.
         return None
+
+
+def asked(path, line, seconds):
+    """What the server of an index answers to a line of its own, in one line, which it gives also while it has others to do.
+
+    None where no server listens. Raises `InUse` where it takes no client for so many seconds, or does not answer.
+    """
+    service = connected(path, seconds)
+    if service is None:
+        return None
+    with service.connection as connection, connection.makefile("rb") as lines:
+        connection.settimeout(seconds)
+        try:
+            connection.sendall(line + b"\n")
+            return lines.readline()
+        except ConnectionError:
+            return b""
+        except OSError:
+            raise InUse(f"{path}: its server does not answer: it is stopped, or its machine is too busy") from None
 
 
 def _connection(place):

@@ -52,7 +52,7 @@ from .copying import NO_COPY, write_packed
 from .fileformat import Unusable, level_count, read_root
 from .index import Index
 from .lines import LINE_LIMIT
-from .links import server_path
+from .links import FIGURES_LINE, server_path
 from .shards.folder import is_folder_of_shards, shard_path, shards_in
 
 PAGE = 1_000  # rows of a search, at a time
@@ -65,7 +65,7 @@ BYTES_READ = 1 << 16  # of a client, at a time
 LEVELS_KEPT = 12  # of the sixteen that an index may have
 SECONDS_TO_LEAVE = 2  # that clients have to take their last replies when the server ends
 STOPPED = 3
-COPY, FIGURES = b"copy", b"figures"  # the lines that are no lines of the program
+COPY = b"copy"  # with FIGURES_LINE the lines that are no lines of the program
 FILES_AT_ONCE = 1  # that come with the lines that are read at a time
 
 _ON_A_CURSOR = re.compile(rb"(fetch|close) (0|[1-9][0-9]{0,19})(?![0-9])")
@@ -162,7 +162,7 @@ class Session:
                     yield [line.rstrip("\n") for line in lines]
         elif line == COPY:
             yield self.copy()
-        elif line == FIGURES:
+        elif line == FIGURES_LINE:
             yield [self.server.figures()]
         elif word == b"open":
             lines = self.ask(line)

@@ -20,7 +20,7 @@ from ..fileformat import HEAD, Unusable, read_root
 from ..holders import holder
 from ..imports.stamps import Records, stamps_path
 from ..index import SECONDS_FOR_A_SERVER, Index
-from ..links import connected
+from ..links import FIGURES_LINE, asked
 from ..shards import Missing, is_address, is_folder_of_shards, open_index, shard_path, shards_in
 
 STOPPED = 3
@@ -59,14 +59,7 @@ def of_server(path, patience):
     Raises `InUse` or `OSError` where it gives no answer for so many seconds, or for five where that is more.
     """
     seconds = max(patience, SECONDS_FOR_A_SERVER)
-    service = connected(path, seconds)
-    if service is None:
-        return {}
-    service.connection.settimeout(seconds)
-    with service.connection as connection, connection.makefile("rwb") as lines:
-        lines.write(b"figures\n")
-        lines.flush()
-        told = FIGURES.fullmatch(lines.readline())
+    told = FIGURES.fullmatch(asked(path, FIGURES_LINE, seconds) or b"")
     return {"server": dict(zip(("clients", "waiting", "cursors"), map(int, told.groups())))} if told else {}
 
 
