@@ -34,7 +34,7 @@ from support import BUNCO, CLIENT, PATIENCE, run_tests, until  # isort: skip
 
 from buncocedar import LINE_LIMIT, Index, terminal
 from buncocedar.document import Document, NoText, Text, Unseen
-from buncocedar.imports import bringing, engine, folder, making, naming, packages, packed, stamps
+from buncocedar.imports import archives, bringing, engine, folder, mail, making, naming, packages, packed, stamps
 from buncocedar.imports.interrupts import Interrupts
 from buncocedar.imports.log import Log
 from buncocedar.imports.parts import parts_of
@@ -1220,8 +1220,17 @@ class Find(Case):
         os.close(ours)
         self.assertEqual(self.run_script("mail", "--show", "--raw", path, "two@x", stdout=theirs), "")
         os.close(theirs)
+        # By what the import has noted, without a walk over the archive.
+        out = io.TextIOWrapper(io.BytesIO(), encoding="utf-8")
+        with mock.patch.object(archives, "messages", side_effect=AssertionError("it is walked")), contextlib.redirect_stdout(out):
+            self.main(mail, "--show", "--raw", self.path, "<two@x>")
+            self.assertIn("it has no message four@x", self.main(mail, "--show", self.path, "four@x", expect=1))
+            self.assertIn("it has no message fox", self.main(mail, "--show", self.path, "fox", expect=1))
+        self.assertEqual(out.buffer.getvalue(), b"Message-ID: <two@x>\nFrom: bob@x\nSubject: Re: Red\n\nquick\n")
         # Where a message has moved, the next run notes it.
         self.write("mail.mbox", archive[archive.index(b"From b") :])
+        said = self.run_script("mail", "--show", self.path, "two@x", expect=3)
+        self.assertIn("two@x has moved since it was brought in: run bunco mail again\n", said)
         said = self.run_script("mail", self.path, path)
         self.assertIn("1 document: 0 added, 1 unchanged", said)
         self.assertIn("1 document of earlier runs not seen any more, and still in the index", said)

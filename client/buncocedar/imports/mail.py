@@ -6,7 +6,8 @@ a text is there in several forms, the HTML only if the plain one is blank. Words
 `thread:..`, `attachment:report`, `is:unread`, `folder:sent` and `label:..` find messages by these fields. Files that end
 in .gz, .xz and .bz2 are unpacked. What a mail reader notes besides is no change.
 
-With --show the words are ARCHIVE NAME, and the message of this name is printed; with --raw as it stands in the archive.
+With --show the words are ARCHIVE NAME, and the message of this name is printed; with --raw as it stands in the archive. Where
+ARCHIVE is an index, the message is found at once, where it stood when it was brought in; else all of the archive is read.
 """
 
 import functools
@@ -14,11 +15,11 @@ import os
 import sys
 
 from ..document import Unchanged, Unfit
-from ..terminal import printable, quiet_end, write
+from ..terminal import printable, quiet_end, why, write
 from . import archives
 from .bringing import BAD_USE, STOPPED, bring_as, parser_of
 from .messages import Message, document_of, form_of
-from .stamps import Known, Source, digest, name_of, numbered, part_of, stem_of
+from .stamps import Known, Records, Source, digest, is_numbered, name_of, numbered, part_of, stamps_path, stem_of
 
 
 def documents(path, known, attached=True):
@@ -58,23 +59,39 @@ def named(archive):
         yield name, entry.raw
 
 
-def show(archive, name, as_it_stands):
-    """Prints the message of this name or id, or of the one that this is a part of."""
+def found_in(archive, name):
+    """The bytes of the message of this name or id, or of the one that this is a part of; None where an archive or an index has none."""
     part = part_of(name)
     wanted = (name, name_of(name.strip("<>")))
-    for each, raw in named(archive):
-        if each in wanted or part and stem_of(each) == part[0]:
-            if as_it_stands:
-                with quiet_end():
-                    sys.stdout.buffer.write(raw)
-                    sys.stdout.buffer.flush()
-            else:
-                text = Message(raw).text()
-                shown = f"Subject: {text.title}\n{text.head}\n\n{text.body.rstrip()}\n"
-                write(printable(shown) if sys.stdout.isatty() else shown)
-            return 0
-    print(f"mail: {archive}: it has no message {name}", file=sys.stderr)
-    return 1
+    if not os.path.exists(stamps_path(archive)):
+        return next((raw for each, raw in named(archive) if each in wanted or part and stem_of(each) == part[0]), None)
+    records = Records(stamps_path(archive))
+    whole = [each for each in records.in_parts() if stem_of(each) == part[0]] if part else []
+    for each in (*wanted, *whole):
+        place = records.found(each)
+        if place is not None and place.kind == "mail":
+            raw = archives.raw_at(place)
+            if not is_numbered(each, name_of(Message(raw).wanted)):
+                raise OSError(f"{each} has moved since it was brought in: run bunco mail again")
+            return raw
+    return None
+
+
+def show(archive, name, as_it_stands):
+    """Prints the message of this name or id, or of the one that this is a part of."""
+    raw = found_in(archive, name)
+    if raw is None:
+        print(f"mail: {archive}: it has no message {name}", file=sys.stderr)
+        return 1
+    if as_it_stands:
+        with quiet_end():
+            sys.stdout.buffer.write(raw)
+            sys.stdout.buffer.flush()
+    else:
+        text = Message(raw).text()
+        shown = f"Subject: {text.title}\n{text.head}\n\n{text.body.rstrip()}\n"
+        write(printable(shown) if sys.stdout.isatty() else shown)
+    return 0
 
 
 # --- The command.
@@ -84,7 +101,7 @@ def parser():
     """What the words of the command may be."""
     parser = parser_of("mail", __doc__, ("ARCHIVE ..", "mbox files, Maildirs, folders of messages, or files of one message"))
     parser.add_argument("--no-attachments", action="store_true", help="leave out the texts of attached files")
-    parser.add_argument("--show", action="store_true", help="print a message: the words are ARCHIVE NAME")
+    parser.add_argument("--show", action="store_true", help="print a message: the words are ARCHIVE NAME, or INDEX NAME")
     parser.add_argument("--raw", action="store_true", help="print it as it stands in the archive")
     return parser
 
@@ -105,7 +122,7 @@ def main(arguments=None):
         try:
             return show(options.index, options.archive[0], options.raw)
         except OSError as error:
-            print(f"mail: {options.index}: {error.strerror or error}", file=sys.stderr)
+            print(f"mail: {options.index}: {why(error)}", file=sys.stderr)
             return STOPPED
     attached = not options.no_attachments
     form = digest(form_of(attached), 4)
