@@ -15,7 +15,7 @@ SQLite cut words in other ways.
 With --top the best K are asked for in place of counts: `top K` of the program beside its `count`, FTS5's `order by rank limit K`, and the
 first K of Xapian, where its Python module is there, by its default weighting. Neither of these two tells how many there are.
 
-With --record the milliseconds go into a file of figures, from which bench/plot.py draws a picture.
+With --record the milliseconds go into a file of figures, from which bench/plot.py draws a picture: with --top of counts and of the best.
 """
 
 import argparse
@@ -210,10 +210,9 @@ def main():
         if options.levels:
             programs.append(Program(options.program, folder, in_levels(lines), "in levels "))
         base = table_of(texts_of(lines), os.path.join(folder, "x.db") if options.merged else ":memory:", not options.merged)
+        panels = compared(programs, base, options) if options.record or not options.top else []
         if options.top:
-            panels = ranked(programs, base, database_of(texts_of(lines), folder) if xapian else None, options)
-        else:
-            panels = compared(programs, base, options)
+            panels += ranked(programs, base, database_of(texts_of(lines), folder) if xapian else None, options)
         if options.record:
             record(options.record, f"Searches over {len(lines):,} short descriptions", panels)
     return 0

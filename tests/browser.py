@@ -1,4 +1,4 @@
-"""A headless Chromium over its own protocol (Chrome DevTools Protocol, by a pipe), for the tests of the page."""
+"""A headless Chromium over its own protocol (Chrome DevTools Protocol, by a pipe), for the tests of pages, and what these show."""
 
 import base64
 import contextlib
@@ -15,6 +15,17 @@ from support import PATIENCE
 
 CALL_SECONDS = 5  # that a call has which is tried again
 KEYS = {"Enter": (13, "\r"), "ArrowDown": (40, ""), "ArrowUp": (38, ""), "Escape": (27, ""), "/": (191, "/"), "j": (74, "j"), "k": (75, "k")}
+EVIL = '<script>window.hacked = 1</script><img src=x onerror="window.hacked = 1">'
+LETTER = """From ann@x Mon Jan  1 09:00:00 2024
+Message-ID: <first@x>
+From: Ann <ann@x>
+To: Bob <bob@x>
+Date: Mon, 1 Jan 2024 09:00:00 +0000
+Subject: The <red> fox
+
+The quick red fox jumps over the lazy dog.
+
+"""
 
 
 def chromium():

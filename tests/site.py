@@ -32,7 +32,7 @@ from support import BUNCO, PATIENCE, run_lines, run_tests  # isort: skip
 
 import demo
 import work
-from browser import Browser, chromium
+from browser import EVIL, LETTER, Browser, chromium
 from buncocedar import Index
 from buncocedar.copying import copy_into
 from buncocedar.site import main, module
@@ -46,17 +46,7 @@ NODE = shutil.which("node") or shutil.which("nodejs")
 MEMORY = "/dev/shm" if os.access("/dev/shm", os.W_OK) else None
 LINES = 10_000  # of random scripts, at least
 DOCUMENTS = 2_000  # of the generated run
-EVIL = '<script>window.hacked = 1</script><img src=x onerror="window.hacked = 1">'
-MAIL = """From ann@x Mon Jan  1 09:00:00 2024
-Message-ID: <first@x>
-From: Ann <ann@x>
-To: Bob <bob@x>
-Date: Mon, 1 Jan 2024 09:00:00 +0000
-Subject: The <red> fox
-
-The quick red fox jumps over the lazy dog.
-
-From bob@x Tue Jan  2 09:00:00 2024
+MAIL = LETTER + """From bob@x Tue Jan  2 09:00:00 2024
 Message-ID: <a/second@x>
 From: Bob <bob@x>
 Date: Tue, 2 Jan 2024 09:00:00 +0000

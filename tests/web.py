@@ -27,7 +27,7 @@ from urllib.parse import quote
 from support import BUNCO, PATIENCE, run_tests, until  # isort: skip
 
 import fake
-from browser import Browser, chromium
+from browser import EVIL, LETTER, Browser, chromium
 from buncocedar import Index
 from buncocedar.shards import make, open_index
 from buncocedar.web import server as web
@@ -37,17 +37,7 @@ from buncocedar.web.questions import Busy, Questions
 
 FAKE = fake.installed()
 PROGRAM = FAKE
-EVIL = '<script>window.hacked = 1</script><img src=x onerror="window.hacked = 1">'
-MAIL = """From ann@x Mon Jan  1 09:00:00 2024
-Message-ID: <first@x>
-From: Ann <ann@x>
-To: Bob <bob@x>
-Date: Mon, 1 Jan 2024 09:00:00 +0000
-Subject: The <red> fox
-
-The quick red fox jumps over the lazy dog.
-
-From bob@x Tue Jan  2 09:00:00 2024
+MAIL = LETTER + """From bob@x Tue Jan  2 09:00:00 2024
 Message-ID: <second@x>
 References: <none@x> <first@x>
 In-Reply-To: <first@x>
