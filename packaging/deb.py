@@ -45,6 +45,13 @@ License: none
  The owner of Buncocedar has not chosen a licence yet.
 
 """
+# Nobody but the system's own user can keep what Python makes of the modules: without it each command reads them anew.
+AFTER_INSTALLING = f"""#!/bin/sh
+set -e
+if [ "$1" = configure ] && command -v py3compile >/dev/null; then
+    py3compile -p {NAME}
+fi
+"""
 # What Python has kept of the modules is of no package.
 BEFORE_REMOVAL = f"""#!/bin/sh
 set -e
@@ -164,6 +171,7 @@ def make(maintainer, target):
         put_root(stage)
         control = CONTROL.format(name=NAME, version=version, maintainer=maintainer, size=stage.size())
         stage.put("DEBIAN/control", control.encode())
+        stage.put("DEBIAN/postinst", AFTER_INSTALLING.encode(), 0o755)
         stage.put("DEBIAN/prerm", BEFORE_REMOVAL.encode(), 0o755)
         path = os.path.join(target, f"{NAME}_{version}_amd64.deb")
         words = ("dpkg-deb", "--root-owner-group", "-Zxz", "--build", folder, path)

@@ -8,6 +8,7 @@ where it is not there, and that is said.
 """
 
 import os
+import shlex
 import shutil
 import subprocess
 import sys
@@ -166,6 +167,14 @@ class Debian(Packages):
         named += ["bash-completion/completions/alta", "bash-completion/completions/bunco", "zsh/vendor-completions/_bunco"]
         for name in [f"usr/share/{it}" for it in named] + ["usr/lib/systemd/user/bunco-import.timer", "usr/bin/bunco"]:
             self.assertTrue(os.path.isfile(os.path.join(root, name)), name)
+        # Behind the installation Python's own form of the modules is made, by Debian's command for it.
+        done("dpkg-deb", "-e", first, self.made("control"))
+        stub = self.put("../stub/py3compile", f'#!/bin/sh\necho "$@" >>{shlex.quote(os.path.join(self.folder, "compiled"))}\n')
+        os.chmod(stub, 0o755)
+        for word in ("abort-upgrade", "configure"):
+            done(os.path.join(self.folder, "control", "postinst"), word, env={**os.environ, "PATH": f"{os.path.dirname(stub)}:{os.environ['PATH']}"})
+        self.assertEqual(self.text("../compiled"), "-p buncocedar\n")
+        done(os.path.join(self.folder, "control", "postinst"), "configure", env={"PATH": "/nowhere"})
         # In a bare folder the package is where no scheme of this Python has it, and the program on the PATH.
         environment = {"PATH": os.path.join(root, "usr/bin"), "PYTHONPATH": os.path.join(root, "usr/lib/python3/dist-packages")}
         self.uses(os.path.join(root, "usr/bin/alta"), os.path.join(root, "usr/bin/bunco"), environment)
