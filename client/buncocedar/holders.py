@@ -131,7 +131,7 @@ def _owner(path):
     """The number of the process that has locked the file, None where the system tells none."""
     try:
         found = os.stat(path)
-        with open("/proc/locks", encoding="ascii") as file:
+        with open("/proc/locks", encoding="utf-8") as file:
             locks = [line.split() for line in file]
     except OSError:
         return None

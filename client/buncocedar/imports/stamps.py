@@ -72,7 +72,7 @@ PART = "~p"  # what stands before the number in the name of a part behind the fi
 _PART = Regular(f"(.+){PART}([1-9][0-9]*)", re.DOTALL)
 _NUMBERED = Regular(".+~([1-9][0-9]*)", re.DOTALL)
 _QUOTED = Regular(rb"[^A-Za-z0-9_.~/-]")
-_SPELLED = [chr(code) if re.match("[A-Za-z0-9_.~/-]", chr(code)) else f"%{code:02X}" for code in range(128)]
+_SPELLED = [letter if letter.isalnum() or letter in "_.~/-" else f"%{ord(letter):02X}" for letter in map(chr, range(128))]
 _PLACE = Regular(r"([^@]*)(?:@([0-9]+)\+([0-9]+))?")
 # The lines of an older version.
 _STAMP = Regular(f"({_NAME}) ([1-9][0-9]*(?:,[1-9][0-9]*)*) ([0-9a-f]{{32}}) ([0-9a-f]{{8}})(?: (?=[!-~])([!-?A-~]*(?:@[0-9]+\\+[0-9]+)?)(?: ([0-9a-f]{{32}}))?)?".encode())

@@ -9,7 +9,6 @@ import importlib
 import os
 import re
 
-from ..document import Unfit
 from ..imports.stamps import STEM_LIMIT, Records, part_of, stamps_path, stem_of
 from ..texts import Regular
 
@@ -18,6 +17,8 @@ READERS = {"folder": "folder", "mail": "messages", "packages": "packages"}  # of
 
 def read(found):
     """The text of a document where it was found. Its import is loaded here: what counts answers needs none."""
+    from ..document import Unfit
+
     if found.kind not in READERS:
         raise Unfit(f"this version knows no bunco {found.kind}")
     return importlib.import_module(f"..imports.{READERS[found.kind]}", __package__).read(found)
@@ -75,6 +76,7 @@ class Places:
         found = self.found(name)
         if found is None or found.kind != "mail":
             return ""
+        from ..document import Unfit
         from ..imports import archives, messages
 
         try:
@@ -92,6 +94,8 @@ class Places:
 
 def text_at(found):
     """The text of a document, or in its place why there is none."""
+    from ..document import Unfit
+
     try:
         return read(found)
     except FileNotFoundError:

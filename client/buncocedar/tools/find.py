@@ -23,7 +23,6 @@ import os
 import sys
 
 from ..errors import Error
-from ..fileformat import OPEN, SLOT
 from ..replies import MOST_BEST
 from ..shards import is_address
 from ..terminal import paged, quiet_end, why
@@ -97,6 +96,8 @@ def is_index(path):
         return os.path.exists(path) or is_address(path)
     if not os.path.isfile(path):
         return False
+    from ..fileformat import OPEN, SLOT
+
     with open(path, "rb") as file:
         head = file.read(SLOT + 1)
     return OPEN in (head[:1] + head[SLOT:])

@@ -4,7 +4,6 @@ import os
 import sys
 from typing import List, NamedTuple
 
-from ..document import Text
 from ..terminal import NAME, PLACE, Paint, linked, printable, wants_colour
 from .documents import Places, about, day_of, edit, head_fields, shown_path, text_at, thread_of, whole_lines
 
@@ -99,7 +98,7 @@ class View:
         """A row that says what a document is, for who reads it: empty where that is not known."""
         found = self.places.found(name)
         text = text_at(found) if found else None
-        if not isinstance(text, Text):
+        if text is None or isinstance(text, str):
             return f"{number} {self.clean(name)} ({self.clean(text)})" if text else ""
         if found.kind == "folder":
             shown = self.best(text)
@@ -122,7 +121,7 @@ class View:
         """Writes each line of a file that answers as PATH:LINE:TEXT, as editors and grep have it."""
         found = self.places.found(name)
         text = text_at(found) if found and found.kind == "folder" else "it is no file of its own"
-        if not isinstance(text, Text):
+        if isinstance(text, str):
             print(f"find: {name}: {text}", file=sys.stderr)
             return
         lines = text.body.split("\n")
