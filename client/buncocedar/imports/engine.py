@@ -189,25 +189,21 @@ class Import:
 
     def take_unchanged(self, unchanged):
         """Counts documents that stand where they stood, unread; one whose name is another's meanwhile is read, and taken."""
+        used, marks = self.naming.used, self.known.places
         for place, name in unchanged.names:
-            if not self.is_passed(place, name):
+            stamp = self.stamps.of.get(name)
+            if stamp is None or name in self.anew:
                 document = unchanged.read(place)
                 if document is not None:
                     self.take(document)
-
-    def is_passed(self, place, name):
-        """Counts a document that stands where it stood, where its name still is its own; tells whether it is."""
-        stamp = self.stamps.of.get(name)
-        if stamp is None or name in self.anew:
-            return False
-        kind = "repeated" if name in self.naming.used else "unchanged"
-        self.naming.used[name] = stamp.stamp
-        self.summary.counts[kind] += 1
-        if kind == "repeated":
-            self.note_repeat(place, name, self.known.places[place][1])
-        elif stamp.place != place or stamp.source != self.source:
-            self.move(name, stamp._replace(source=self.source, place=place, mark=self.known.places[place][1]))
-        return True
+                continue
+            kind = "repeated" if name in used else "unchanged"
+            used[name] = stamp.stamp
+            self.summary.counts[kind] += 1
+            if kind == "repeated":
+                self.note_repeat(place, name, marks[place][1])
+            elif stamp.place != place or stamp.source != self.source:
+                self.move(name, stamp._replace(source=self.source, place=place, mark=marks[place][1]))
 
     def move(self, name, moved):
         """Writes that a document stands in another place, and, where that is another source's, that it still stands in that one."""
