@@ -7,6 +7,8 @@ use Rattle.std.proofs.lemmas.List.Sums.{sum_by-cons}
 use Rattle.std.proofs.lemmas.Option.{get_or_from_slice_get}
 use Rattle.alta_content.specs.declared.document.DocRow.{DocRow}
 use Rattle.alta_table.specs.declared.term.TermRow.{TermRow}
+use Rattle.alta_table.specs.Places.{TermAt}
+use Rattle.alta_table.specs.Tables.{Tables}
 use Rattle.alta_table.specs.Terms.{counts_of, data_of, data_bytes, streams_of, summaries_of, terms_of}
 use Rattle.alta_content.specs.TermList.{TermList}
 use Rattle.alta_level.specs.Stored.{IsListOf, IsListFault, Stored}
@@ -105,3 +107,7 @@ behind_row rows i bytes rest behind at above a b r e =
     let row = row_at rows i in
     e ∙ ap (λ (x : List ℕ). drop above x) r ∙ drop-drop above at bytes
     ∙ ap (λ (x : ℕ). drop (x + above) bytes) (stream_of_row rows i at a) ∙ ap (λ (x : ℕ). drop (row.stream + x) bytes) (summary_of_row rows i above b)
+
+-- the row at which a cursor stands
+pub cursor_row : (at : TermAt) (level : Tables) (i : ℕ) → at.tables ≡ level → at.row ≡ i → row_at at.tables.terms at.row ≡ row_at level.terms i
+cursor_row at level i tables here = ap (λ (t : Tables). row_at t.terms at.row) tables ∙ ap (λ (k : ℕ). row_at level.terms k) here

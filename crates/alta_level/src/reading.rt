@@ -15,7 +15,7 @@ use crate::laws::segments_read_back;
 use crate::stored::StoredList;
 use alta_codec::Loc;
 use alta_content::{Content, DocRows, LevelRows, TermLists};
-use alta_table::{LevelFault, OpenLevel, head, tables_in_front, tables_read_back};
+use alta_table::{LevelFault, OpenLevel, TermCursor, head, tables_in_front, tables_read_back};
 use std::alloc::Global;
 use std::default::MadeWith;
 use std::rc::Rc;
@@ -43,20 +43,18 @@ fn tables_at(alloc: Global, bytes: &[u8], place: u64) -> Result<(OpenLevel, usiz
     }
 }
 
-// The list of a row, whose stream begins the bytes, which begin at a place, and what stands behind its summary.
-fn list_at<'a>(
-    table: &'a OpenLevel,
-    row: usize,
+// The list of the row at which a cursor stands. Its stream begins the bytes, which begin at a place. And what stands behind its summary.
+fn list_at<'a: 'b, 'b>(
+    cursor: &'b TermCursor<'_>,
     bytes: &'a [u8],
     place: u64,
-) -> (StoredList<'a>, &'a [u8])
-    requires within { row < length table.now.terms }
-    requires whole { data_of (row_at table.now.terms row) ≤ length bytes.now }
+) -> (StoredList<'b>, &'a [u8])
+    requires whole { data_of (row_at cursor.now.tables.terms cursor.now.row) ≤ length bytes.now }
     requires below { place + length bytes.now < 2 ^ 64 }
-    ensures list { stored_of result.0 ≡ stored_at (row_at table.now.terms row) bytes.now place }
-    ensures behind { result.1.now ≡ drop (data_of (row_at table.now.terms row)) bytes.now }
+    ensures list { stored_of result.0 ≡ stored_at (row_at cursor.now.tables.terms cursor.now.row) bytes.now place }
+    ensures behind { result.1.now ≡ drop (data_of (row_at cursor.now.tables.terms cursor.now.row)) bytes.now }
 {
-    let (at, above) = table.stream_place(row);
+    let (at, above) = cursor.stream_place();
     let (stream, rest) = bytes.split_at(at.bytes as usize);
     let (summary, behind) = rest.split_at(above.bytes as usize);
     let list = StoredList {
@@ -64,8 +62,8 @@ fn list_at<'a>(
         stream_place: place,
         summary,
         summary_place: place + at.bytes,
-        term: table.term(row),
-        count: table.count(row),
+        term: cursor.term(),
+        count: cursor.count(),
     };
     (list, behind)
 }
@@ -112,14 +110,16 @@ fn lists_at(
     let mut places = Vec::new(alloc);
     let mut rest = streams;
     let mut at = place;
+    let mut cursor = table.first();
     for row in 0..table.terms() {
-        let (list, behind) = list_at(table, row, rest, at);
+        let (list, behind) = list_at(&cursor, rest, at);
         match put_list(&mut lists, &mut locations, &mut places, &list, documents) {
             Ok(()) => {}
             Err(fault) => return Err(fault),
         }
         at += (rest.len() - behind.len()) as u64;
         rest = behind;
+        cursor.next();
     }
     Ok(lists)
 }

@@ -1,12 +1,11 @@
-pub mod Spans
-pub mod PackedLaws
+pub mod WalkLaws
 pub mod Order
 pub mod RowLaws
 pub mod TermLaws
 pub mod Opened
-pub mod PlaceLaws
 pub mod Grown
 pub mod TableParts
 pub mod TableLaws
-pub mod SearchLaws
 pub mod FrontLaws
+pub mod PlaceLaws
+pub mod SearchLaws

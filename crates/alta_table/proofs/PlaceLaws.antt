@@ -1,9 +1,8 @@
 -- Places of names and streams, as rows are read.
-use Rattle.std.proofs.Common.{◌≡◌, ℕ, zero, suc, ◌+◌, ◌-◌, ◌≤◌, ◌<◌, ◌^◌, List, [], ◌∷◌, ◌++◌, length, get_or, take, map, Ok, refl, sym, ap, ◌∙◌, arith, length-append}
-use Rattle.std.proofs.Math.ListN.{get_or-map}
+use Rattle.std.proofs.Common.{◌≡◌, ℕ, zero, suc, ◌+◌, ◌-◌, ◌≤◌, ◌<◌, ◌^◌, List, [], ◌∷◌, ◌++◌, length, get_or, take, map, Ok, Some, refl, sym, ap, ◌∙◌, arith, length-append}
+use Rattle.std.specs.Prelude.{slice_get}
 use Rattle.std.proofs.lemmas.List.{get_or_default}
-use Rattle.std.proofs.lemmas.List.Sums.{sum_by-cons, sum_by_push, sum_by_more, sum_by-take-le}
-use Rattle.std.specs.List.{sum_by}
+use Rattle.std.proofs.lemmas.List.Sums.{sum_by_more}
 use Rattle.alta_format.specs.Format.{AreBytes, read, entries_bytes, state_behind}
 use Rattle.alta_format.proofs.FormatLaws.{AreBytes-rest, read_spells}
 use Rattle.alta_format.proofs.EntryLaws.{entries_bytes-push, state_behind-push}
@@ -12,14 +11,15 @@ use Rattle.alta_content.specs.declared.document.DocRow.{DocRow}
 use Rattle.alta_table.specs.declared.term.TermRow.{TermRow}
 use Rattle.alta_table.specs.Documents.{row_bytes, row_format, documents_table, documents_bytes}
 use Rattle.alta_content.specs.Rows.{Before, behind_row, start}
-use Rattle.alta_table.specs.Terms.{data_of, data_bytes}
-use Rattle.alta_table.specs.Places.{name_place, name_places, stream_place, stream_places, stream_extent, summary_extent, tables_in, AreParts, row_in, rows_in, places_in}
+use Rattle.alta_table.specs.Terms.{counts_of, data_of, streams_of, terms_of}
+use Rattle.alta_table.specs.Places.{name_place, name_places, stream_place, stream_extent, summary_extent, tables_in, AreParts, HasPassed}
+use Rattle.alta_table.specs.Marks.{IsHeld, rows_in}
+use Rattle.alta_table.specs.Walks.{row_of, term_of}
 use Rattle.alta_table.specs.declared.sizes.Head.{Head}
 use Rattle.alta_table.specs.declared.parts.Parts.{Parts}
-use Rattle.alta_table.specs.declared.span.TermSpan.{TermSpan}
-use Rattle.alta_table.specs.Tables.{tables_bytes, read_head, tables_of}
+use Rattle.alta_table.specs.declared.walk.Walk.{Walk}
+use Rattle.alta_table.specs.Tables.{read_head, tables_of}
 use Rattle.alta_table.proofs.TableLaws.{tables_are}
-use Rattle.alta_table.specs.Packed.{spans_in}
 use Rattle.alta_table.proofs.RowLaws.{row_spelled, row-some}
 
 -- ---- names
@@ -94,27 +94,6 @@ row_read place bytes rows more names places before rest r behind name got same p
       fits = AreBytes-rest rest (row_bytes before r) behind seen.fits (row_is before rest r behind seen.fits got);
     }
 
--- ---- streams
-
-pub stream_places-push : (from : ℕ) (rows : List TermRow) (t : TermRow) → stream_places from (rows ++ t ∷ []) ≡ stream_places from rows ++ (from + data_bytes rows) ∷ []
-unfolding stream_places
-stream_places-push from [] t = let e : from ≡ from + 0 = omega arith in ap (λ (k : ℕ). k ∷ []) e
-stream_places-push from (x ∷ rows) t =
-    let e : from + data_of x + data_bytes rows ≡ from + data_bytes (x ∷ rows) = omega (arith, sum_by-cons data_of x rows) in
-    ap (λ (l : List ℕ). from ∷ l) (stream_places-push (from + data_of x) rows t ∙ ap (λ (k : ℕ). stream_places (from + data_of x) rows ++ k ∷ []) e)
-
-pub length-stream_places : (from : ℕ) (rows : List TermRow) → length (stream_places from rows) ≡ length rows
-unfolding stream_places
-length-stream_places from [] = refl
-length-stream_places from (t ∷ rows) = ap suc (length-stream_places (from + data_of t) rows)
-
-pub stream_places-at : (from : ℕ) (rows : List TermRow) (k : ℕ) → k < length rows → get_or (stream_places from rows) k 0 ≡ from + sum_by data_of (take k rows)
-unfolding stream_places
-stream_places-at from [] k lt = absurd (omega (arith, lt))
-stream_places-at from (t ∷ rows) zero lt = omega arith
-stream_places-at from (t ∷ rows) (suc k) lt =
-    stream_places-at (from + data_of t) rows k (omega (arith, lt)) ∙ omega (arith, sum_by-cons data_of t (take k rows))
-
 -- no rows yet
 pub reads_none : (place : ℕ) (bytes : List ℕ) (rows : List DocRow) (names : List ℕ) → rows ≡ [] → names ≡ [] → AreBytes bytes → AreRead place bytes rows names start bytes
 unfolding name_places state_behind entries_bytes
@@ -123,52 +102,21 @@ reads_none place bytes rows names no_rows no_names fits = rw (no_rows, no_names)
     none : AreRead place bytes [] [] start bytes
     none = record { names_are = refl; before_is = refl; sized = omega arith; fits = fits }
 
--- ---- the term rows that were read, and how much room they leave
-pub record AreTermsRead (room end : ℕ) (rows : List TermRow) (streams : List ℕ) (left : ℕ) : Type 0 where
-  pub left_is : left + data_bytes rows ≡ room
-  pub streams_are : streams ≡ stream_places (end - room) rows
-
-terms_none : (room end : ℕ) (rows : List TermRow) (streams : List ℕ) → rows ≡ [] → streams ≡ [] → AreTermsRead room end rows streams room
-unfolding stream_places
-terms_none room end rows streams no_rows no_streams = rw (no_rows, no_streams) none
-  where
-    none : AreTermsRead room end [] [] room
-    none = record { left_is = omega arith; streams_are = refl }
-
-pub none_read : (room end : ℕ) (text : List ℕ) (spans : List TermSpan) → spans ≡ [] → AreTermsRead room end (rows_in text spans) (places_in spans) room
-none_read room end text spans none = terms_none room end (rows_in text spans) (places_in spans) (ap (rows_in text) none) (ap places_in none)
-
-pub term_read : (room end : ℕ) (rows more : List TermRow) (streams places : List ℕ) (left : ℕ) (t : TermRow) → room ≤ end → t.stream + t.summary ≤ left
-    → more ≡ rows ++ t ∷ [] → places ≡ streams ++ (end - left) ∷ [] → AreTermsRead room end rows streams left → AreTermsRead room end more places (left - t.stream - t.summary)
-term_read room end rows more streams places left t le fits pushed placed seen =
-    let sum : data_bytes more ≡ data_bytes rows + data_of t = ap (λ (l : List TermRow). data_bytes l) pushed ∙ sum_by_push data_of rows t in
-    let at : end - left ≡ end - room + data_bytes rows = omega (arith, seen.left_is, le) in
-    record {
-      left_is = omega (arith, seen.left_is, sum, fits);
-      streams_are = placed ∙ ap (λ (l : List ℕ). l ++ (end - left) ∷ []) seen.streams_are ∙ ap (λ (k : ℕ). stream_places (end - room) rows ++ k ∷ []) at ∙ sym (stream_places-push (end - room) rows t)
-          ∙ ap (λ (l : List TermRow). stream_places (end - room) l) (sym pushed);
-    }
-
 -- ---- what is opened
 
 abbrev pub terms_at : Parts → List TermRow
-terms_at p = rows_in p.text.items (spans_in p.spans)
-
-abbrev pub places_at : Parts → List ℕ
-places_at p = places_in (spans_in p.spans)
+terms_at p = rows_in p.terms
 
 -- rows with the places that were kept while they were read
 pub parts_are : (p : Parts) (bytes : List ℕ) (place total : ℕ) → AreBytes bytes → place + total < 2 ^ 64
     → ((h : Head) → read_head bytes place total ≡ Ok h → length bytes ≡ 32 + h.document_bytes + h.term_bytes)
-    → tables_of bytes place total ≡ Ok (tables_in p) → p.names.items ≡ name_places (place + 32) start p.documents.value
-    → (places_at p) ≡ stream_places (place + total - data_bytes (terms_at p)) (terms_at p) → AreParts p
-parts_are p bytes place total fits below exact e names streams =
+    → tables_of bytes place total ≡ Ok (tables_in p) → p.names.items ≡ name_places (place + 32) start p.documents.value → IsHeld p.terms 0 → p.end ≡ place + total → AreParts p
+parts_are p bytes place total fits below exact e names held end =
     let a = tables_are bytes place total (tables_in p) fits (λ h read. omega (arith, exact h read)) e in
-    let size : ℕ = length (tables_bytes p.documents.value (terms_at p)) in
-    let from : place + total - data_bytes (terms_at p) ≡ p.place + size = omega (arith, a.keeps.filled, a.at) in
     record {
       names_are = names ∙ ap (λ (k : ℕ). name_places (k + 32) start p.documents.value) (sym a.at);
-      streams_are = streams ∙ ap (λ (k : ℕ). stream_places k (terms_at p)) from;
+      held = held;
+      ends = omega (arith, end, a.keeps.filled, a.at);
       keeps = record {
         some = a.keeps.some;
         documents_stand = a.keeps.documents_stand;
@@ -176,7 +124,7 @@ parts_are p bytes place total fits below exact e names streams =
         has_end = a.keeps.has_end;
         filled = refl;
       };
-      below = omega (arith, a.keeps.filled, a.at, below);
+      below = omega (arith, end, below);
     }
 
 -- ---- places by row
@@ -190,50 +138,40 @@ name_is p row at a lt here =
     here ∙ get_or_default p.names.items row at 0 (omega (arith, names-len p a, lt)) ∙ ap (λ (l : List ℕ). get_or l row 0) a.names_are ∙ name_places-at (p.place + 32) start p.documents.value row lt
     ∙ ap (λ (k : ℕ). p.place + 32 + length (documents_bytes (take k p.documents.value)) - length (name_at p.documents.value row)) next
 
-pub streams-len : (p : Parts) → AreParts p → length (places_at p) ≡ length (terms_at p)
-streams-len p a = ap length a.streams_are ∙ length-stream_places (p.place + length (tables_bytes p.documents.value (terms_at p))) (terms_at p)
-
-stream_is : (p : Parts) (row at : ℕ) → AreParts p → row < length (terms_at p) → at ≡ get_or (places_at p) row at → at ≡ stream_place (tables_in p) row
-stream_is p row at a lt here = here ∙ get_or_default (places_at p) row at 0 (omega (arith, streams-len p a, lt)) ∙ ap (λ (l : List ℕ). get_or l row 0) a.streams_are ∙ stream_places-at (p.place + length (tables_bytes p.documents.value (terms_at p))) (terms_at p) row lt
-
--- a span's place and row are those of its number
-place_of : (p : Parts) (row : ℕ) (s : TermSpan) → s ≡ get_or (spans_in p.spans) row s → s.place ≡ get_or (places_at p) row s.place
-place_of p row s is = ap (λ (x : TermSpan). x.place) is ∙ sym (get_or-map (λ (x : TermSpan). x.place) (spans_in p.spans) row s)
-
-row_of : (p : Parts) (row : ℕ) (s : TermSpan) → s ≡ get_or (spans_in p.spans) row s → row_in p.text.items s ≡ get_or (terms_at p) row (row_in p.text.items s)
-row_of p row s is = ap (row_in p.text.items) is ∙ sym (get_or-map (row_in p.text.items) (spans_in p.spans) row s)
-
--- a row's stream and summary end where those of all rows do, on the disk
-pub data_within : (p : Parts) (row : ℕ) (s : TermSpan) → AreParts p → row < length (terms_at p) → s ≡ get_or (spans_in p.spans) row s
-    → s.place + s.stream + s.summary ≤ p.place + length (tables_bytes p.documents.value (terms_at p)) + data_bytes (terms_at p)
-data_within p row s a lt is =
-    let t : TermRow = row_in p.text.items s in
-    let more = sum_by_more data_of (terms_at p) row t lt in
-    let some = sum_by-take-le data_of (terms_at p) (row + 1) in
-    omega (arith, stream_is p row s.place a lt (place_of p row s is), more, some, ap data_of (row_of p row s is))
-
-pub stream_ends : (p : Parts) (row : ℕ) (s : TermSpan) → AreParts p → row < length (terms_at p) → s ≡ get_or (spans_in p.spans) row s → s.place + s.stream < 2 ^ 64
-stream_ends p row s a lt is = omega (arith, data_within p row s a lt is, a.below)
-
 map_at : (f : TermRow → ℕ) (rows : List TermRow) (row : ℕ) (d : TermRow) → row < length rows → get_or (map f rows) row 0 ≡ f (get_or rows row d)
 map_at f [] row d lt = absurd (omega (arith, lt))
 map_at f (t ∷ rows) zero d lt = refl
 map_at f (t ∷ rows) (suc row) d lt = map_at f rows row d (omega (arith, lt))
 
+-- a number of the row that a walk passed last
+passed_at : (p : Parts) (row : ℕ) (w : Walk) (f : TermRow → ℕ) → HasPassed p row w → f (row_of w) ≡ get_or (map f (terms_at p)) row 0
+passed_at p row w f h = ap f h.row_is ∙ sym (map_at f (terms_at p) row (row_of w) h.within)
+
+pub count_is : (p : Parts) (row : ℕ) (w : Walk) → HasPassed p row w → w.count ≡ get_or (counts_of (terms_at p)) row 0
+count_is p row w h = passed_at p row w (λ t. t.count) h
+
+pub term_is : (p : Parts) (row : ℕ) (w : Walk) → HasPassed p row w → slice_get (terms_of (terms_at p)) row ≡ Some (term_of w)
+term_is p row w h = got (terms_at p) row (row_of w) h.within ∙ ap (λ (t : TermRow). Some t.term) (sym h.row_is)
+  where
+    got : (rows : List TermRow) (row : ℕ) (d : TermRow) → row < length rows → slice_get (terms_of rows) row ≡ Some (get_or rows row d).term
+    got [] row d lt = absurd (omega (arith, lt))
+    got (t ∷ rows) zero d lt = refl
+    got (t ∷ rows) (suc row) d lt = got rows row d (omega (arith, lt))
+
+-- where the row's stream begins: its bytes, its summary's, and those behind it stand from there to the end of the segment
+pub stream_from : (p : Parts) (row : ℕ) (w : Walk) → AreParts p → HasPassed p row w → stream_place (tables_in p) row + w.stream + w.summary + w.left ≡ p.end
+stream_from p row w a h =
+    omega (arith, h.stands.sum, a.held.sum, a.ends, sum_by_more data_of (terms_at p) row (row_of w) h.within, ap data_of h.row_is)
+
 abbrev extent : ℕ → ℕ → Extent
 extent place bytes = record { place = place; bytes = bytes }
 
-pub stream_extent_is : (p : Parts) (row : ℕ) (s : TermSpan) → AreParts p → row < length (terms_at p) → s ≡ get_or (spans_in p.spans) row s → extent s.place s.stream ≡ stream_extent (tables_in p) row
-stream_extent_is p row s a lt is =
-    let t : TermRow = row_in p.text.items s in
-    ap (λ (k : ℕ). extent k s.stream) (stream_is p row s.place a lt (place_of p row s is))
-    ∙ ap (λ (k : ℕ). extent (stream_place (tables_in p) row) k) (ap (λ (x : TermRow). x.stream) (row_of p row s is) ∙ sym (map_at (λ (x : TermRow). x.stream) (terms_at p) row t lt))
+pub stream_extent_is : (p : Parts) (row : ℕ) (w : Walk) → AreParts p → HasPassed p row w → extent (p.end - w.left - w.summary - w.stream) w.stream ≡ stream_extent (tables_in p) row
+stream_extent_is p row w a h =
+    let place : p.end - w.left - w.summary - w.stream ≡ stream_place (tables_in p) row = omega (arith, stream_from p row w a h) in
+    ap (λ (k : ℕ). extent k w.stream) place ∙ ap (λ (k : ℕ). extent (stream_place (tables_in p) row) k) (passed_at p row w (λ t. t.stream) h)
 
-pub summary_extent_is : (p : Parts) (row : ℕ) (s : TermSpan) → AreParts p → row < length (terms_at p) → s ≡ get_or (spans_in p.spans) row s → extent (s.place + s.stream) s.summary ≡ summary_extent (tables_in p) row
-summary_extent_is p row s a lt is =
-    let t : TermRow = row_in p.text.items s in
-    let stream : s.stream ≡ get_or (map (λ (x : TermRow). x.stream) (terms_at p)) row 0 = ap (λ (x : TermRow). x.stream) (row_of p row s is) ∙ sym (map_at (λ (x : TermRow). x.stream) (terms_at p) row t lt) in
-    let summary : s.summary ≡ get_or (map (λ (x : TermRow). x.summary) (terms_at p)) row 0 = ap (λ (x : TermRow). x.summary) (row_of p row s is) ∙ sym (map_at (λ (x : TermRow). x.summary) (terms_at p) row t lt) in
-    ap (λ (k : ℕ). extent (k + s.stream) s.summary) (stream_is p row s.place a lt (place_of p row s is))
-    ∙ ap (λ (k : ℕ). extent (stream_place (tables_in p) row + k) s.summary) stream
-    ∙ ap (λ (k : ℕ). extent (stream_place (tables_in p) row + get_or (map (λ (x : TermRow). x.stream) (terms_at p)) row 0) k) summary
+pub summary_extent_is : (p : Parts) (row : ℕ) (w : Walk) → AreParts p → HasPassed p row w → extent (p.end - w.left - w.summary) w.summary ≡ summary_extent (tables_in p) row
+summary_extent_is p row w a h =
+    let place : p.end - w.left - w.summary ≡ stream_place (tables_in p) row + get_or (streams_of (terms_at p)) row 0 = omega (arith, stream_from p row w a h, passed_at p row w (λ t. t.stream) h) in
+    ap (λ (k : ℕ). extent k w.summary) place ∙ ap (λ (k : ℕ). extent (stream_place (tables_in p) row + get_or (streams_of (terms_at p)) row 0) k) (passed_at p row w (λ t. t.summary) h)

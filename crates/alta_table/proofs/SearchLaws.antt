@@ -1,5 +1,5 @@
 -- Looking for terms by halves, in rows whose terms rise.
-use Rattle.std.proofs.Common.{◌≡◌, ◌⊎◌, ⊎_elim, inl, inr, ℕ, zero, suc, ◌≤◌, ◌<◌, Bool, true, false, ◌||◌, List, [], ◌∷◌, length, get_or, Some, refl, sym, ap, subst, ◌∙◌, arith}
+use Rattle.std.proofs.Common.{◌≡◌, ◌⊎◌, ⊎_elim, inl, inr, ℕ, zero, suc, ◌+◌, ◌-◌, ◌*◌, ◌≤◌, ◌<◌, Bool, true, false, ◌||◌, List, [], ◌∷◌, length, get_or, Some, refl, sym, ap, subst, ◌∙◌, arith}
 use Rattle.std.specs.Prelude.{Option, None, MatchOption, is_some, nat_eq, slice_get}
 use Rattle.std.specs.List.{list_any, starts_with}
 use Rattle.std.specs.Str.{bytes_eq}
@@ -9,19 +9,18 @@ use Rattle.std.specs.Cmp.{IsTotalOrder, nat_cmp_total}
 use Rattle.std.specs.Cmp.Lexicographic.{slice_cmp, lists_total}
 use Rattle.std.specs.declared.cmp.Ordering.{Ordering}
 use Rattle.std.specs.declared.cmp.Ordering.TheVariants.{Less, Equal, Greater}
-use Rattle.std.proofs.Math.ListN.{get_or-map}
-use Rattle.std.proofs.lemmas.List as lists
 use Rattle.std.proofs.lemmas.Cmp.{tied_itself}
+use Rattle.std.proofs.lemmas.List.{get_or_default}
 use Rattle.std.proofs.lemmas.Bool.{cases_lt, and_parts, eqb-true, eq-eqb}
 use Rattle.alta_codec.specs.Order.{Precedes}
-use Rattle.alta_table.specs.declared.span.TermSpan.{TermSpan}
+use Rattle.alta_table.specs.declared.marks.Mark.{Mark}
 use Rattle.alta_table.specs.declared.term.TermRow.{TermRow}
-use Rattle.alta_table.specs.Places.{term_in, row_in, rows_in}
-use Rattle.alta_table.specs.Terms.{AreTermsBehind, AreTerms, is_end, terms_of}
+use Rattle.alta_table.specs.declared.terms.HeldTerms.{HeldTerms}
+use Rattle.alta_table.specs.Marks.{IsHeld, head_of, rows_in}
+use Rattle.alta_table.specs.Terms.{AreTermsBehind, AreTerms, HasEnd, is_end, terms_of}
 use Rattle.alta_content.proofs.Order.{itself, same_term}
 use Rattle.alta_table.specs.Search.{StartsWith, IsPrefixRange, stands_by}
 use Rattle.alta_table.proofs.Order.{cmp_less, cmp_equal, cmp_greater}
-use Rattle.alta_table.proofs.Spans.{term_at, length-rows_in}
 
 abbrev order : List ℕ → List ℕ → Ordering
 order a b = slice_cmp nat_cmp a b
@@ -179,73 +178,90 @@ range_is rows prefix first behind within1 within2 (low1, high1) (low2, high2) = 
         let before : is_before prefix (get_or rows behind d) ≡ true = low1 behind d (omega arith) crossed in
         not_both (is_upto prefix (get_or rows behind d)) (or_left _ _ before) (high2 behind d (omega arith) (omega (arith, crossed, within1)))
 
--- ---- the same of spans in a text
+-- ---- a point among rows
 
--- what holds of the rows of two numbers holds of their spans
-at_spans : (text : List ℕ) (spans : List TermSpan) (P : TermRow → TermRow → Type 0) (i j : ℕ) (d : TermSpan)
-    → P (get_or (rows_in text spans) i (row_in text d)) (get_or (rows_in text spans) j (row_in text d)) → P (row_in text (get_or spans i d)) (row_in text (get_or spans j d))
-at_spans text spans P i j d holds =
-    subst (λ (r : TermRow). P r (row_in text (get_or spans j d))) (get_or-map (row_in text) spans i d)
-    (subst (λ (r : TermRow). P (get_or (rows_in text spans) i (row_in text d)) r) (get_or-map (row_in text) spans j d) holds)
-
-no_span : TermSpan
-no_span = record { start = 0; len = 0; count = 0; place = 0; stream = 0; summary = 0 }
-
--- what holds of a span holds of its row
-at_row : (text : List ℕ) (spans : List TermSpan) (P : TermRow → Type 0) (i : ℕ) (d : TermRow) → i < length spans → P (row_in text (get_or spans i no_span)) → P (get_or (rows_in text spans) i d)
-at_row text spans P i d lt holds = subst P (sym (lists.get_or-map (row_in text) spans i no_span d lt)) holds
-
-point_in : (text : List ℕ) (spans : List TermSpan) (P Q : TermRow → Type 0) (at : ℕ) → at ≤ length spans
-    → IsPartitionPoint (λ s. P (row_in text s)) (λ s. Q (row_in text s)) spans at → IsPartitionPoint P Q (rows_in text spans) at
-point_in text spans P Q at le (low, high) = (
-  λ i d from upto. at_row text spans P i d (omega (arith, upto, le)) (low i no_span from upto),
-  λ i d from upto. let lt : i < length spans = omega (arith, upto, length-rows_in text spans) in at_row text spans Q i d lt (high i no_span from lt),
-)
-
-pub found_in : (text : List ℕ) (spans : List TermSpan) (term : List ℕ) (i : ℕ) (s : TermSpan) → i < length spans → s ≡ get_or spans i s → term_in text s ≡ term → slice_get (terms_of (rows_in text spans)) i ≡ Some term
-found_in text spans term i s lt is same =
-    term_at text spans i s lt ∙ ap (λ (x : TermSpan). Some (term_in text x)) (sym is) ∙ ap (λ (t : List ℕ). Some t) same
-
-abbrev stands_before : List ℕ → List ℕ → TermSpan → Bool
-stands_before text prefix s = is_lt (slice_cmp nat_cmp (term_in text s) prefix)
-
-abbrev stands_upto : List ℕ → List ℕ → TermSpan → Bool
-stands_upto text prefix s = is_lt (slice_cmp nat_cmp (term_in text s) prefix) || starts_with nat_eq (term_in text s) prefix
-
-parted : (text : List ℕ) (spans : List TermSpan) (p : TermRow → Bool) → IsPartitionedBy p (rows_in text spans) → IsPartitionedBy (λ s. p (row_in text s)) spans
-parted text spans p parts i j d le lt =
-    at_spans text spans (λ r s. p s ≡ true → p r ≡ true) i j d (parts i j (row_in text d) le (omega (arith, lt, length-rows_in text spans)))
-
-before_parted : (text : List ℕ) (spans : List TermSpan) (prefix : List ℕ) → AreTerms (rows_in text spans) → IsPartitionedBy (stands_before text prefix) spans
-before_parted text spans prefix m = parted text spans (is_before prefix) (before_parts (rows_in text spans) prefix m)
-
-upto_parted : (text : List ℕ) (spans : List TermSpan) (prefix : List ℕ) → AreTerms (rows_in text spans) → IsPartitionedBy (stands_upto text prefix) spans
-upto_parted text spans prefix m = parted text spans (is_upto prefix) (upto_parts (rows_in text spans) prefix m)
+abbrev pub stands_at : List ℕ → Bool → TermRow → Bool
+stands_at prefix begun row = stands_by prefix begun row.term
 
 -- either is one test, by whether what begins with the prefix counts too
-pub parted_by : (text : List ℕ) (spans : List TermSpan) (prefix : List ℕ) (begun : Bool) → AreTerms (rows_in text spans) → IsPartitionedBy (stands_by text prefix begun) spans
-parted_by text spans prefix true m = upto_parted text spans prefix m
-parted_by text spans prefix false m = before_parted text spans prefix m
+parted_by : (rows : List TermRow) (prefix : List ℕ) (begun : Bool) → AreTerms rows → IsPartitionedBy (stands_at prefix begun) rows
+parted_by rows prefix true m = upto_parts rows prefix m
+parted_by rows prefix false m = before_parts rows prefix m
 
--- what the span of one row says of those before it, and of those behind it
-pub low_side : (p : TermSpan → Bool) (spans : List TermSpan) (row : ℕ) (s : TermSpan) → IsPartitionedBy p spans → row < length spans → s ≡ get_or spans row s → p s ≡ true
-    → (i : ℕ) (d : TermSpan) → i ≤ row → p (get_or spans i d) ≡ true
-low_side p spans row s parts lt is holds i d le = parts i row d le lt (ap p (lists.get_or_default spans row d s lt ∙ sym is) ∙ holds)
+-- what one row says of those before it, and of those behind it
+pub low_side : (rows : List TermRow) (prefix : List ℕ) (begun : Bool) (row : ℕ) → AreTerms rows → row < length rows → ((d : TermRow) → stands_at prefix begun (get_or rows row d) ≡ true)
+    → (i : ℕ) (d : TermRow) → i ≤ row → stands_at prefix begun (get_or rows i d) ≡ true
+low_side rows prefix begun row m lt holds i d le = parted_by rows prefix begun m i row d le lt (holds d)
 
-pub high_side : (p : TermSpan → Bool) (spans : List TermSpan) (row : ℕ) (s : TermSpan) → IsPartitionedBy p spans → row < length spans → s ≡ get_or spans row s → p s ≡ false
-    → (i : ℕ) (d : TermSpan) → row ≤ i → i < length spans → p (get_or spans i d) ≡ false
-high_side p spans row s parts lt is fails i d le within =
-    ⊎_elim (λ holds. absurd (not_both (p s) (ap p (is ∙ lists.get_or_default spans row s d lt) ∙ parts row i d le within holds) fails)) (λ no. no) (cases_bool (p (get_or spans i d)))
+pub high_side : (rows : List TermRow) (prefix : List ℕ) (begun : Bool) (row : ℕ) → AreTerms rows → row < length rows → ((d : TermRow) → stands_at prefix begun (get_or rows row d) ≡ false)
+    → (i : ℕ) (d : TermRow) → row ≤ i → i < length rows → stands_at prefix begun (get_or rows i d) ≡ false
+high_side rows prefix begun row m lt fails i d le within =
+    ⊎_elim (λ holds. absurd (not_both (stands_at prefix begun (get_or rows row d)) (parted_by rows prefix begun m row i d le within holds) (fails d))) (λ no. no) (cases_bool (stands_at prefix begun (get_or rows i d)))
 
-abbrev pub IsPoint : (TermSpan → Bool) → List TermSpan → ℕ → Type 0
-IsPoint p spans at = IsPartitionPoint (λ s. p s ≡ true) (λ s. p s ≡ false) spans at
+-- ---- a mark whose head stands so
 
-pub range_in : (text : List ℕ) (spans : List TermSpan) (prefix : List ℕ) (first behind : ℕ) → first ≤ length spans → behind ≤ length spans
-    → IsPoint (stands_by text prefix false) spans first → IsPoint (stands_by text prefix true) spans behind → IsPrefixRange (terms_of (rows_in text spans)) prefix first behind
-range_in text spans prefix first behind within1 within2 point1 point2 =
-    range_is (rows_in text spans) prefix first behind (omega (arith, within1, length-rows_in text spans)) (omega (arith, within2, length-rows_in text spans))
-    (point_in text spans (λ row. is_before prefix row ≡ true) (λ row. is_before prefix row ≡ false) first within1 point1)
-    (point_in text spans (λ row. is_upto prefix row ≡ true) (λ row. is_upto prefix row ≡ false) behind within2 point2)
+-- the mark of this number, or the first, and the head of the last stands so
+abbrev pub IsFirstOr : List ℕ → List Mark → List ℕ → Bool → ℕ → Type 0
+IsFirstOr heads marks prefix begun k = (k ≡ 0) ⊎ ((k < length marks) × ((d : Mark) → stands_by prefix begun (head_of heads (get_or marks k d)) ≡ true))
+
+pub mark_stands : (heads : List ℕ) (marks : List Mark) (prefix : List ℕ) (begun : Bool) (k low : ℕ) (m : Mark) (term : List ℕ) → k < length marks → low ≡ k + 1 → m ≡ get_or marks k m → term ≡ head_of heads m
+    → stands_by prefix begun term ≡ true → (d : Mark) → stands_by prefix begun (head_of heads (get_or marks (low - 1) d)) ≡ true
+mark_stands heads marks prefix begun k low m term lt next is text stands d =
+    let at : k ≡ low - 1 = omega (arith, next) in
+    let same : term ≡ head_of heads (get_or marks (low - 1) d) = text ∙ ap (head_of heads) (is ∙ get_or_default marks k m d lt) ∙ ap (λ (j : ℕ). head_of heads (get_or marks j d)) at in
+    subst (λ (t : List ℕ). stands_by prefix begun t ≡ true) same stands
+
+pub mark_is : (heads : List ℕ) (marks : List Mark) (prefix : List ℕ) (begun : Bool) (low k : ℕ) → low ≤ length marks → k ≡ low - 1
+    → (low ≡ 0) ⊎ ((d : Mark) → stands_by prefix begun (head_of heads (get_or marks (low - 1) d)) ≡ true) → IsFirstOr heads marks prefix begun k
+mark_is heads marks prefix begun low k le is found =
+    ⊎_elim (λ (none : low ≡ 0). inl (omega (arith, is, none)))
+    (λ stands. ⊎_elim
+    (λ (some : 0 < low). inr (omega (arith, is, some, le), λ d. subst (λ (j : ℕ). stands_by prefix begun (head_of heads (get_or marks j d)) ≡ true) (sym is) (stands d)))
+    (λ (none : low ≤ 0). inl (omega (arith, is, none)))
+    (cases_lt 0 low))
+    found
+
+pub mark_within : (heads : List ℕ) (marks : List Mark) (prefix : List ℕ) (begun : Bool) (k : ℕ) → IsFirstOr heads marks prefix begun k → (k ≡ 0) ⊎ (k < length marks)
+mark_within heads marks prefix begun k found = ⊎_elim (λ (none : k ≡ 0). inl none) (λ some. inr some.0) found
+
+-- the rows before that of such a mark stand so
+pub first_rows : (t : HeldTerms) (left : ℕ) (prefix : List ℕ) (begun : Bool) (k : ℕ) → IsHeld t left → IsFirstOr t.marks.heads.items t.marks.marks.items prefix begun k
+    → (i : ℕ) (d : TermRow) → i < k * 16 → stands_at prefix begun (get_or (rows_in t) i d) ≡ true
+first_rows t left prefix begun k held found i d lt =
+    ⊎_elim (λ (none : k ≡ 0). absurd (omega (arith, none, lt)))
+    (λ (within, stands). let m = held.marked.are k no_mark within in
+    low_side (rows_in t) prefix begun (k * 16 - 1) held.stand (omega (arith, lt, m.stands.within))
+    (λ e. subst (λ (term : List ℕ). stands_by prefix begun term ≡ true) (m.stands.last e (omega (arith, lt))) (stands no_mark)) i d (omega (arith, lt)))
+    found
+  where
+    no_mark : Mark
+    no_mark = record { at = 0; left = 0; start = 0; len = 0 }
+
+-- a row at which those that stand so end
+pub point_at : (rows : List TermRow) (prefix : List ℕ) (begun : Bool) (row : ℕ) (d : TermRow) → AreTerms rows → row < length rows → d ≡ get_or rows row d → stands_at prefix begun d ≡ false
+    → ((i : ℕ) → (e : TermRow) → i < row → stands_at prefix begun (get_or rows i e) ≡ true) → IsPartitionPoint (λ r. stands_by prefix begun r.term ≡ true) (λ r. stands_by prefix begun r.term ≡ false) rows row
+point_at rows prefix begun row d m lt is fails before = (
+  λ i e from upto. before i e upto,
+  λ i e from upto. high_side rows prefix begun row m lt (λ f. subst (λ (r : TermRow). stands_at prefix begun r ≡ false) (is ∙ get_or_default rows row d f lt) fails) i e from upto,
+)
+
+-- a row that stands so, behind such rows
+pub stands_more : (rows : List TermRow) (prefix : List ℕ) (begun : Bool) (row : ℕ) (d : TermRow) → AreTerms rows → row < length rows → d ≡ get_or rows row d → stands_at prefix begun d ≡ true
+    → (i : ℕ) (e : TermRow) → i < row + 1 → stands_at prefix begun (get_or rows i e) ≡ true
+stands_more rows prefix begun row d m lt is holds i e upto =
+    low_side rows prefix begun row m lt (λ f. subst (λ (r : TermRow). stands_at prefix begun r ≡ true) (is ∙ get_or_default rows row d f lt) holds) i e (omega (arith, upto))
+
+abbrev pub IsPoint : List ℕ → Bool → List TermRow → ℕ → Type 0
+IsPoint prefix begun rows at = IsPartitionPoint (λ row. stands_by prefix begun row.term ≡ true) (λ row. stands_by prefix begun row.term ≡ false) rows at
+
+pub range_in : (rows : List TermRow) (prefix : List ℕ) (first behind : ℕ) → first ≤ length rows → behind ≤ length rows
+    → IsPoint prefix false rows first → IsPoint prefix true rows behind → IsPrefixRange (terms_of rows) prefix first behind
+range_in rows prefix first behind within1 within2 point1 point2 = range_is rows prefix first behind within1 within2 point1 point2
+
+pub found_in : (rows : List TermRow) (term : List ℕ) (i : ℕ) (d : TermRow) → i < length rows → d ≡ get_or rows i d → d.term ≡ term → slice_get (terms_of rows) i ≡ Some term
+found_in [] term i d lt is same = absurd (omega (arith, lt))
+found_in (row ∷ rows) term zero d lt is same = ap (λ (r : TermRow). Some r.term) (sym is) ∙ ap (λ (t : List ℕ). Some t) same
+found_in (row ∷ rows) term (suc i) d lt is same = found_in rows term i d (omega (arith, lt)) is same
 
 -- the first row that does not stand before a term is not that term, so none is
 absent_at : (rows : List TermRow) (term : List ℕ) (at : ℕ) → AreTerms rows → IsSplit (is_before term) rows at → ((d : TermRow) → at < length rows → (get_or rows at d).term ≡ term → ⊥)
@@ -262,12 +278,9 @@ absent_at rows term at m (low, high) other i e =
     (cases_lt at i))
     (cases_lt i at)
 
-pub absent_in : (text : List ℕ) (spans : List TermSpan) (term : List ℕ) (at : ℕ) → AreTerms (rows_in text spans) → at ≤ length spans → IsPoint (stands_by text term false) spans at
-    → ((s : TermSpan) → at < length spans → term_in text (get_or spans at s) ≡ term → ⊥) → (i : ℕ) → slice_get (terms_of (rows_in text spans)) i ≡ Some term → ⊥
-absent_in text spans term at m le point other =
-    absent_at (rows_in text spans) term at m (point_in text spans (λ row. is_before term row ≡ true) (λ row. is_before term row ≡ false) at le point)
-    (λ d lt same. let within : at < length spans = omega (arith, lt, length-rows_in text spans) in
-    other no_span within (sym (ap (λ (row : TermRow). row.term) (lists.get_or-map (row_in text) spans at no_span d within)) ∙ same))
+pub absent_in : (rows : List TermRow) (term : List ℕ) (at : ℕ) → AreTerms rows → IsPoint term false rows at → ((d : TermRow) → at < length rows → (get_or rows at d).term ≡ term → ⊥)
+    → (i : ℕ) → slice_get (terms_of rows) i ≡ Some term → ⊥
+absent_in rows term at m point other = absent_at rows term at m point other
 
 pub differs : (a t : List ℕ) → bytes_eq a t ≡ false → a ≡ t → ⊥
 differs a t other same = not_both (bytes_eq a t) (ap (λ (x : List ℕ). bytes_eq x t) same ∙ itself t) other
@@ -289,3 +302,7 @@ none_at (row ∷ rows) none =
 pub has_end_is : (rows : List TermRow) (found : Option ℕ) → MatchOption found ((i : ℕ) → slice_get (terms_of rows) i ≡ Some (68 ∷ []) → ⊥) (λ i. slice_get (terms_of rows) i ≡ Some (68 ∷ [])) → is_some found ≡ list_any is_end rows
 has_end_is rows None none = sym (none_at rows none)
 has_end_is rows (Some i) here = sym (any_at rows i here)
+
+pub some_term : (rows : List TermRow) → HasEnd rows → 0 < length rows
+some_term [] h = absurd cc
+some_term (row ∷ rows) h = omega arith

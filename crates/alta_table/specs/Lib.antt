@@ -2,7 +2,8 @@ pub mod Answers
 pub mod Documents
 pub mod Terms
 pub mod Tables
-pub mod Packed
+pub mod Walks
+pub mod Marks
 pub mod Places
 pub mod Search
 pub mod Writing

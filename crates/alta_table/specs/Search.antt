@@ -3,8 +3,6 @@ use Rattle.std.specs.Prelude.{◌≡◌, ◌||◌, if◌then◌else◌, ℕ, ◌
 use Rattle.std.specs.List.{starts_with}
 use Rattle.std.specs.Cmp.Lexicographic.{slice_cmp}
 use Rattle.std.specs.Ordering.{is_lt, nat_cmp}
-use Rattle.alta_table.specs.declared.span.TermSpan.{TermSpan}
-use Rattle.alta_table.specs.Places.{term_in}
 
 abbrev pub StartsWith : List ℕ → List ℕ → Type 0
 StartsWith prefix term = IsTrue (starts_with nat_eq term prefix)
@@ -16,7 +14,6 @@ pub record IsPrefixRange (terms : List (List ℕ)) (prefix : List ℕ) (first be
   pub inside : (i : ℕ) → (term : List ℕ) → slice_get terms i ≡ Some term → first ≤ i → i < behind → StartsWith prefix term
   pub only : (i : ℕ) → (term : List ℕ) → slice_get terms i ≡ Some term → StartsWith prefix term → (first ≤ i) × (i < behind)
 
--- the span's term stands before a prefix or, where those count too, begins with it
-abbrev pub stands_by : List ℕ → List ℕ → Bool → TermSpan → Bool
-stands_by text prefix begun span =
-    if begun then (is_lt (slice_cmp nat_cmp (term_in text span) prefix) || starts_with nat_eq (term_in text span) prefix) else is_lt (slice_cmp nat_cmp (term_in text span) prefix)
+-- the term stands before a prefix or, where those count too, begins with it
+abbrev pub stands_by : List ℕ → Bool → List ℕ → Bool
+stands_by prefix begun term = if begun then (is_lt (slice_cmp nat_cmp term prefix) || starts_with nat_eq term prefix) else is_lt (slice_cmp nat_cmp term prefix)

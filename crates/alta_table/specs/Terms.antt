@@ -7,7 +7,7 @@ use Rattle.alta_codec.specs.Order.{Precedes}
 use Rattle.alta_content.specs.Lists.{is_kind}
 use Rattle.alta_format.specs.Format.{Format, packed, ends, number_field, text_field, Repeats, repeated}
 use Rattle.alta_table.specs.declared.term.TermRow.{TermRow}
-use Rattle.alta_table.specs.declared.terms.TermFields.{TermFields}
+use Rattle.alta_table.specs.declared.entry.TermFields.{TermFields}
 
 abbrev pub terms_of : List TermRow → List (List ℕ)
 terms_of rows = map (λ row. row.term) rows

@@ -5,21 +5,24 @@
 //! term is spelled without the bytes that it shares with the one before.
 #![tactic(auto)]
 
+mod cursor;
 mod documents;
+mod entry;
 mod fault;
 mod heading;
 mod laws;
-mod packed;
+mod marks;
 mod parts;
 mod search;
 mod sizes;
-mod span;
 mod table;
 mod term;
 mod terms;
+mod walk;
 mod writers;
 
 pub use alta_content::DocRow;
+pub use cursor::TermCursor;
 pub use fault::LevelFault;
 pub use heading::head;
 pub use laws::{tables_in_front, tables_read_back};

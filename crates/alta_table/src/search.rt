@@ -1,22 +1,20 @@
-// Looking for terms by halves.
-ghost use Rattle.std.specs.Prelude.{◌≡◌, ◌||◌, ◌≤◌, ℕ, Bool, Some, MatchOption, length, nat_eq, slice_get, if◌then◌else◌, true, false};
-ghost use Rattle.std.specs.Cmp.Lexicographic.{slice_cmp};
-ghost use Rattle.std.specs.List.{starts_with};
+// Looking for terms: by halves among the marks, and then row by row.
+ghost use Rattle.std.specs.Prelude.{◌≡◌, ◌⊎◌, ◌+◌, ◌*◌, ◌<◌, ◌≤◌, ℕ, Some, MatchOption, length, slice_get, slice_index_or, true, false};
 ghost use Rattle.std.specs.List.Sorted.{IsPartitionPoint};
-ghost use Rattle.std.specs.Ordering.{is_lt, nat_cmp};
-ghost use Rattle.alta_table.specs.Packed.{spans_in};
-ghost use Rattle.alta_table.specs.Terms.{AreTerms, terms_of};
-ghost use Rattle.alta_table.specs.Places.{rows_in, term_in};
+ghost use Rattle.alta_table.specs.Marks.{IsHeld, StandsBefore, head_of, rows_in};
+ghost use Rattle.alta_table.specs.Terms.{terms_of};
+ghost use Rattle.alta_table.specs.Walks.{behind_of, row_of};
 ghost use Rattle.alta_table.specs.Search.{IsPrefixRange, stands_by};
+ghost use Rattle.alta_table.specs.declared.marks.Mark.{Mark};
 
-use crate::packed::Spans;
-use crate::span::{TermSpan, term_of};
+use crate::marks::{Marks, STRIDE};
+use crate::terms::HeldTerms;
+use crate::walk::Walk;
 
-// Whether the span's term stands before a prefix or, where those `begun` count too, begins with it.
-fn stands(text: &[u8], span: &TermSpan, prefix: &[u8], begun: bool) -> bool
-    ensures { result ≡ stands_by text.now prefix.now begun span.now }
+// Whether a term stands before a prefix or, where those `begun` count too, begins with it.
+fn stands(term: &[u8], prefix: &[u8], begun: bool) -> bool
+    ensures { result ≡ stands_by prefix.now begun term.now }
 {
-    let term = term_of(text, span);
     let before = term.cmp(prefix).is_lt();
     if begun {
         before || term.starts_with(prefix)
@@ -25,47 +23,62 @@ fn stands(text: &[u8], span: &TermSpan, prefix: &[u8], begun: bool) -> bool
     }
 }
 
-// How many of the first spans stand so.
-fn point(text: &[u8], spans: &Spans, prefix: &[u8], begun: bool) -> usize
-    requires { AreTerms (rows_in text.now (spans_in spans.now)) }
-    ensures within { result ≤ length (spans_in spans.now) }
-    ensures point { IsPartitionPoint (λ span. stands_by text.now prefix.now begun span ≡ true) (λ span. stands_by text.now prefix.now begun span ≡ false) (spans_in spans.now) result }
+// The last mark behind a row whose term stands so, or the first.
+fn last_mark(marks: &Marks, prefix: &[u8], begun: bool) -> usize
+    ensures { (result ≡ 0) ⊎ ((result < length marks.now.marks.items) × ((d : Mark) → stands_by prefix.now begun (head_of marks.now.heads.items (slice_index_or marks.now.marks.items result d)) ≡ true)) }
 {
     let mut low = 0;
-    let mut high = spans.len();
+    let mut high = marks.marks.len();
     'halve: while low < high {
         let middle = low + (high - low) / 2;
-        if stands(text, &spans.get(middle), prefix, begun) {
+        if stands(marks.head(&marks.marks[middle]), prefix, begun) {
             low = middle + 1;
         } else {
             high = middle;
         }
     }
-    low
+    low.saturating_sub(1)
+}
+
+// How many of the first rows stand so, and a walk that has passed the row behind them, where there is one.
+fn point<'a>(terms: &'a HeldTerms, prefix: &[u8], begun: bool) -> (usize, Walk<'a>)
+    requires { IsHeld terms.now 0 }
+    ensures within { result.0 ≤ length (rows_in terms.now) }
+    ensures point { IsPartitionPoint (λ row. stands_by prefix.now begun row.term ≡ true) (λ row. stands_by prefix.now begun row.term ≡ false) (rows_in terms.now) result.0 }
+    ensures row { result.0 < length (rows_in terms.now) → row_of result.1 ≡ slice_index_or (rows_in terms.now) result.0 (row_of result.1) }
+    ensures short { result.1.len ≤ 129 }
+{
+    let mark = last_mark(&terms.marks, prefix, begun);
+    let mut walk = terms.walk_from(mark);
+    let mut row = mark * STRIDE;
+    'rows: while row < terms.count {
+        walk.pass();
+        if !stands(walk.term(), prefix, begun) {
+            return (row, walk);
+        }
+        row += 1;
+    }
+    (row, walk)
 }
 
 /// The row of a term, None exactly where it is not there.
-pub fn find_in(text: &[u8], spans: &Spans, term: &[u8]) -> Option<usize>
-    requires { AreTerms (rows_in text.now (spans_in spans.now)) }
-    ensures { MatchOption result ((i : ℕ) → slice_get (terms_of (rows_in text.now (spans_in spans.now))) i ≡ Some term.now → ⊥) (λ i. slice_get (terms_of (rows_in text.now (spans_in spans.now))) i ≡ Some term.now) }
+pub fn find_in(terms: &HeldTerms, term: &[u8]) -> Option<usize>
+    requires { IsHeld terms.now 0 }
+    ensures { MatchOption result ((i : ℕ) → slice_get (terms_of (rows_in terms.now)) i ≡ Some term.now → ⊥) (λ i. slice_get (terms_of (rows_in terms.now)) i ≡ Some term.now) }
 {
-    let row = point(text, spans, term, false);
-    if row >= spans.len() {
+    let (row, walk) = point(terms, term, false);
+    if row >= terms.count {
         return None;
     }
-    if term_of(text, &spans.get(row)) == term {
-        Some(row)
-    } else {
-        None
-    }
+    if walk.term() == term { Some(row) } else { None }
 }
 
 /// The first row whose term begins with the prefix, and the row behind the last.
-pub fn prefixed_in(text: &[u8], spans: &Spans, prefix: &[u8]) -> (usize, usize)
-    requires { AreTerms (rows_in text.now (spans_in spans.now)) }
-    ensures { IsPrefixRange (terms_of (rows_in text.now (spans_in spans.now))) prefix.now result.0 result.1 }
+pub fn prefixed_in(terms: &HeldTerms, prefix: &[u8]) -> (usize, usize)
+    requires { IsHeld terms.now 0 }
+    ensures { IsPrefixRange (terms_of (rows_in terms.now)) prefix.now result.0 result.1 }
 {
-    let first = point(text, spans, prefix, false);
-    let behind = point(text, spans, prefix, true);
+    let (first, _walk) = point(terms, prefix, false);
+    let (behind, _walk) = point(terms, prefix, true);
     (first, behind)
 }

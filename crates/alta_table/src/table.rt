@@ -6,19 +6,18 @@ ghost use Rattle.alta_codec.specs.Rising.{IsRising};
 ghost use Rattle.alta_content.specs.Rows.{ends_of, start};
 ghost use Rattle.alta_table.specs.Terms.{AreTerms, counts_of, data_bytes, is_end, terms_of};
 ghost use Rattle.alta_table.specs.Tables.{AreTables, IsDamage, KeepRules, Tables, read_head, tables_bytes, tables_of, total_of};
-ghost use Rattle.alta_table.specs.Packed.{spans_in};
-ghost use Rattle.alta_table.specs.Places.{name_place, name_places, places_in, row_in, rows_in, stream_extent, stream_places, summary_extent, tables_in};
+ghost use Rattle.alta_table.specs.Marks.{IsHeld, rows_in};
+ghost use Rattle.alta_table.specs.Places.{name_place, name_places, stream_extent, summary_extent, tables_in};
 ghost use Rattle.alta_table.specs.Search.{IsPrefixRange};
 ghost use Rattle.alta_table.specs.declared.sizes.Head.{Head};
 
+use crate::cursor::TermCursor;
 use crate::documents::read_documents;
 use crate::fault::LevelFault;
 use crate::heading::head;
-use crate::packed::Spans;
 use crate::parts::Parts;
 use crate::search::{find_in, prefixed_in};
-use crate::span::term_of;
-use crate::terms::read_terms;
+use crate::terms::{HeldTerms, read_terms};
 use alta_codec::Extent;
 use alta_content::{DocRow, LevelRows};
 use std::alloc::{AllocError, Global};
@@ -44,11 +43,11 @@ impl Model for OpenLevel {
 }
 
 // Whether there is the term at which documents end.
-fn has_end(text: &[u8], spans: &Spans) -> bool
-    requires { AreTerms (rows_in text.now (spans_in spans.now)) }
-    ensures { result ≡ list_any is_end (rows_in text.now (spans_in spans.now)) }
+fn has_end(terms: &HeldTerms) -> bool
+    requires { IsHeld terms.now 0 }
+    ensures { result ≡ list_any is_end (rows_in terms.now) }
 {
-    find_in(text, spans, b"D").is_some()
+    find_in(terms, b"D").is_some()
 }
 
 // Rows of documents, to be shared.
@@ -69,7 +68,8 @@ fn opened(alloc: Global, bytes: &[u8], place: u64, total: u64) -> Result<Parts, 
     requires whole { (h : Head) → read_head bytes.now place total ≡ Ok h → length bytes.now ≡ 32 + h.document_bytes + h.term_bytes }
     ensures exact { Answers tables_in result (tables_of bytes.now place total) }
     ensures names { IfOk result (λ p. p.names.items ≡ name_places (place + 32) start p.documents.value) }
-    ensures streams { IfOk result (λ p. places_in (spans_in p.spans) ≡ stream_places (place + total - data_bytes (rows_in p.text.items (spans_in p.spans))) (rows_in p.text.items (spans_in p.spans))) }
+    ensures held { IfOk result (λ p. IsHeld p.terms 0) }
+    ensures end { IfOk result (λ p. p.end ≡ place + total) }
 {
     let head = head(bytes, place, total)?;
     let (_front, tables) = bytes.split_at(32);
@@ -78,11 +78,11 @@ fn opened(alloc: Global, bytes: &[u8], place: u64, total: u64) -> Result<Parts, 
     let documents = read_documents(alloc, head.documents, first, place + 32)?;
     let room = total - 32 - head.document_bytes - head.term_bytes;
     let second_place = place + 32 + head.document_bytes;
-    let terms = read_terms(alloc, head.terms, room, place + total, second, second_place)?;
-    if terms.left > 0 {
-        return Err(LevelFault::Damaged(place + (total - terms.left)));
+    let (terms, left) = read_terms(alloc, head.terms, room, second, second_place)?;
+    if left > 0 {
+        return Err(LevelFault::Damaged(place + (total - left)));
     }
-    if !has_end(&terms.text, &terms.spans) {
+    if !has_end(&terms) {
         return Err(LevelFault::Damaged(place + 8));
     }
     let Ok(rows) = shared(alloc, documents.rows) else {
@@ -90,10 +90,10 @@ fn opened(alloc: Global, bytes: &[u8], place: u64, total: u64) -> Result<Parts, 
     };
     Ok(Parts {
         place,
+        end: place + total,
         documents: rows,
         names: documents.names,
-        text: terms.text,
-        spans: terms.spans,
+        terms,
     })
 }
 
@@ -167,15 +167,24 @@ impl OpenLevel {
     pub fn terms(&self) -> usize
         ensures { result ≡ length self.now.terms }
     {
-        self.parts.spans.len()
+        self.parts.terms.count
     }
 
-    /// The term of a row.
-    pub fn term(&self, row: usize) -> &[u8]
-        requires { row < length self.now.terms }
-        ensures { slice_get (terms_of self.now.terms) row ≡ Some result.now }
+    /// The first term, and what its row says. There is one, since documents have ends.
+    pub fn first(&self) -> TermCursor<'_>
+        ensures tables { result.tables ≡ self.now }
+        ensures row { result.row ≡ 0 }
     {
-        term_of(&self.parts.text, &self.parts.spans.get(row))
+        TermCursor::at(&self.parts, 0)
+    }
+
+    /// The term of a row, and what its row says. It reads the rows from the last mark on, of which each sixteenth row has one.
+    pub fn at(&self, row: usize) -> TermCursor<'_>
+        requires { row < length self.now.terms }
+        ensures tables { result.tables ≡ self.now }
+        ensures row { result.row ≡ row }
+    {
+        TermCursor::at(&self.parts, row)
     }
 
     /// At how many locations the term of a row stands, as its row says.
@@ -183,14 +192,14 @@ impl OpenLevel {
         requires { row < length self.now.terms }
         ensures { result ≡ slice_index (counts_of self.now.terms) row }
     {
-        self.parts.spans.get(row).count
+        self.at(row).count()
     }
 
     /// The row of a term, None exactly where it is not there. It looks by halves.
     pub fn find(&self, term: &[u8]) -> Option<usize>
         ensures { MatchOption result ((i : ℕ) → slice_get (terms_of self.now.terms) i ≡ Some term.now → ⊥) (λ i. slice_get (terms_of self.now.terms) i ≡ Some term.now) }
     {
-        find_in(&self.parts.text, &self.parts.spans, term)
+        find_in(&self.parts.terms, term)
     }
 
     /// The rows of the terms that begin with a prefix: the first, and the row behind the last. The two are equal where
@@ -198,7 +207,7 @@ impl OpenLevel {
     pub fn prefixed(&self, prefix: &[u8]) -> (usize, usize)
         ensures { IsPrefixRange (terms_of self.now.terms) prefix.now result.0 result.1 }
     {
-        prefixed_in(&self.parts.text, &self.parts.spans, prefix)
+        prefixed_in(&self.parts.terms, prefix)
     }
 
     /// Where stream and summary of a row's term stand on the disk.
@@ -210,16 +219,6 @@ impl OpenLevel {
         ensures beside { result.1.place ≡ result.0.place + result.0.bytes }
         ensures within { result.1.place + result.1.bytes ≤ self.now.place + total_of self.now.documents self.now.terms }
     {
-        let span = self.parts.spans.get(row);
-        (
-            Extent {
-                place: span.place,
-                bytes: span.stream,
-            },
-            Extent {
-                place: span.place + span.stream,
-                bytes: span.summary,
-            },
-        )
+        self.at(row).stream_place()
     }
 }

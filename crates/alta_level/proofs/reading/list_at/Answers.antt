@@ -6,18 +6,18 @@ use Rattle.alta_level.proofs.reading.list_at.Goals as goal
 pub split_at-requires : goal.split_at-requires
 split_at-requires c =
     let at = ap (λ (e : Extent). e.bytes) c.stream_place.ensures.stream in
-    omega (arith, stream_of_row c.args.table.now.terms c.args.row c.stream_place.result.0.bytes at)
+    omega (arith, stream_of_row c.args.cursor.now.tables.terms c.args.cursor.now.row c.stream_place.result.0.bytes at)
 
 pub split_at-requires-2 : goal.split_at-requires-2
 split_at-requires-2 c =
     let at = ap (λ (e : Extent). e.bytes) c.stream_place.ensures.stream in
     let above = ap (λ (e : Extent). e.bytes) c.stream_place.ensures.summary in
-    omega (arith, stream_of_row c.args.table.now.terms c.args.row c.stream_place.result.0.bytes at, summary_of_row c.args.table.now.terms c.args.row c.stream_place.result.1.bytes above, c.split_at.ensures.back_len)
+    omega (arith, stream_of_row c.args.cursor.now.tables.terms c.args.cursor.now.row c.stream_place.result.0.bytes at, summary_of_row c.args.cursor.now.tables.terms c.args.cursor.now.row c.stream_place.result.1.bytes above, c.split_at.ensures.back_len)
 
 pub returns : goal.returns
 returns c =
-    let terms = c.args.table.now.terms in
-    let row = c.args.row in
+    let terms = c.args.cursor.now.tables.terms in
+    let row = c.args.cursor.now.row in
     let bytes = c.args.bytes.now in
     let at = ap (λ (e : Extent). e.bytes) c.stream_place.ensures.stream in
     let above = ap (λ (e : Extent). e.bytes) c.stream_place.ensures.summary in

@@ -1,16 +1,16 @@
-use Rattle.std.proofs.Common.{◌≡◌, ℕ, ◌-◌, ◌<◌, ◌≤◌, true, false, length, get_or}
-use Rattle.alta_table.specs.declared.span.TermSpan.{TermSpan}
-use Rattle.alta_table.specs.Packed.{spans_in}
+use Rattle.std.proofs.Common.{◌≡◌, ◌-◌, ◌<◌, ◌≤◌, ℕ, true, get_or}
+use Rattle.alta_table.specs.declared.term.TermRow.{TermRow}
+use Rattle.alta_table.specs.Marks.{StandsBefore, rows_in}
 use Rattle.alta_table.specs.Search.{stands_by}
+use Rattle.alta_table.specs.Walks.{behind_of}
 use Rattle.alta_table.proofs.search.point.Given as goal
 
-abbrev pub invariant-halve : goal.invariant-halve
-invariant-halve l = record {
-  ordered : l.low ≤ l.high;
-  within : l.high ≤ length (spans_in l.spans);
-  before : (i : ℕ) (s : TermSpan) → i < l.low → stands_by l.text l.prefix l.begun (get_or (spans_in l.spans) i s) ≡ true;
-  behind : (i : ℕ) (s : TermSpan) → l.high ≤ i → i < length (spans_in l.spans) → stands_by l.text l.prefix l.begun (get_or (spans_in l.spans) i s) ≡ false;
+abbrev pub invariant-rows : goal.invariant-rows
+invariant-rows l = record {
+  stands : StandsBefore l.terms l.row (behind_of l.walk) l.walk.rest.now;
+  short : l.walk.len ≤ 129;
+  before : (i : ℕ) (d : TermRow) → i < l.row → stands_by l.prefix l.begun (get_or (rows_in l.terms) i d).term ≡ true;
 }
 
-abbrev pub decreases-halve : goal.decreases-halve
-decreases-halve l = l.high - l.low
+abbrev pub decreases-rows : goal.decreases-rows
+decreases-rows l = l.terms.count - l.row

@@ -1,4 +1,4 @@
-use Rattle.alta_table.specs.Packed.{spans_in}
+use Rattle.alta_table.specs.Marks.{rows_in}
 use Rattle.alta_table.proofs.SearchLaws.{range_in}
 use Rattle.alta_table.proofs.search.prefixed_in.Goals as goal
 
@@ -6,4 +6,4 @@ pub returns : goal.returns
 returns c =
     let first = c.point-first.ensures in
     let behind = c.point-behind.ensures in
-    range_in c.args.text.now (spans_in c.args.spans.now) c.args.prefix.now c.point-first.result c.point-behind.result first.within behind.within first.point behind.point
+    range_in (rows_in c.args.terms.now) c.args.prefix.now c.point-first.result.0 c.point-behind.result.0 first.within behind.within first.point behind.point

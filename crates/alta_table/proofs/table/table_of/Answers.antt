@@ -4,4 +4,4 @@ use Rattle.alta_table.proofs.table.table_of.Goals as goal
 
 pub invariant_of-result : goal.invariant_of-result
 invariant_of-result c =
-    parts_are c.in-Ok.parts c.args.bytes.now c.args.place c.args.total (λ i. omega (arith, c.type_inv.bytes i)) c.requires.below c.requires.whole c.in-Ok.ensures.exact c.in-Ok.ensures.names c.in-Ok.ensures.streams
+    parts_are c.in-Ok.parts c.args.bytes.now c.args.place c.args.total (λ i. omega (arith, c.type_inv.bytes i)) c.requires.below c.requires.whole c.in-Ok.ensures.exact c.in-Ok.ensures.names c.in-Ok.ensures.held c.in-Ok.ensures.end
