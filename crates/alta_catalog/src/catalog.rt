@@ -125,7 +125,7 @@ impl Catalog {
         (&self.memory, self.gone.ends())
     }
 
-    /// The rows of the levels, the oldest first, and behind them those in memory, shared, but for the last 1,024 of the latter at most,
+    /// The rows of the levels, the oldest first, and behind them those in memory, shared, but for the last 64 of the latter at most,
     /// which are copied. Fails for want of memory alone.
     pub fn rows(&self) -> Result<AllRows, AllocError>
         requires { (s : State) × Knows self.now s }

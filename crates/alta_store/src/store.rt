@@ -77,7 +77,7 @@ impl Store {
         self.sound
     }
 
-    /// What a search looks at. It takes memory for the list of the rows alone, which are shared, but for the last 1,024 of the newest
+    /// What a search looks at. It takes memory for the list of the rows alone, which are shared, but for the last 64 of the newest
     /// documents at most. Fails for want of memory alone.
     pub fn sources(&self) -> Result<Sources<'_>, AllocError>
         requires { IsIntact self.now }

@@ -14,6 +14,7 @@ use alta_reader::{BackReader, Reader};
 use std::sync::ledger::Ledger;
 
 /// The greatest element of the list of leaf `k`, 0 where it is empty.
+#[inline(always)]
 fn last_at(leaves: &[Leaf<'_>], k: usize) -> Loc
     requires sound { All IsSoundLeaf leaves.now }
     requires within { k < length leaves.now }
@@ -23,6 +24,7 @@ fn last_at(leaves: &[Leaf<'_>], k: usize) -> Loc
 }
 
 /// Moves leaf `j` to the first place of its list at or above `to`, by one step.
+#[inline(always)]
 fn seek_leaf<L: Ledger>(leaves: &mut [Leaf<'_>], j: usize, to: Loc, steps: &mut Steps<L>)
     requires sound { All IsSoundLeaf leaves.old }
     requires within { j < length leaves.old }
@@ -54,7 +56,8 @@ fn leaf_from(leaves: &[Leaf<'_>], from: usize, to: Loc) -> usize
 }
 
 /// Goes on to the first place at or above `to`, and answers the leaf that stands there. At most that one moves.
-fn go<L: Ledger>(leaves: &mut [Leaf<'_>], at: usize, to: Loc, steps: &mut Steps<L>) -> usize
+#[inline(never)]
+fn go_far<L: Ledger>(leaves: &mut [Leaf<'_>], at: usize, to: Loc, steps: &mut Steps<L>) -> usize
     requires sound { All IsSoundLeaf leaves.old }
     requires chain { IsChain (map leaf_list leaves.old) (map leaf_place leaves.old) at }
     requires above { slice_index_or (map leaf_place leaves.old) at TOP < to }
@@ -78,6 +81,29 @@ fn go<L: Ledger>(leaves: &mut [Leaf<'_>], at: usize, to: Loc, steps: &mut Steps<
     }
     seek_leaf(leaves, next, to, steps);
     next
+}
+
+/// The same, which mostly is a move of the leaf that is being read.
+#[inline(always)]
+fn go<L: Ledger>(leaves: &mut [Leaf<'_>], at: usize, to: Loc, steps: &mut Steps<L>) -> usize
+    requires sound { All IsSoundLeaf leaves.old }
+    requires chain { IsChain (map leaf_list leaves.old) (map leaf_place leaves.old) at }
+    requires above { slice_index_or (map leaf_place leaves.old) at TOP < to }
+    requires top { to ≤ TOP }
+    ensures sound { All IsSoundLeaf leaves.new }
+    ensures lists { map leaf_list leaves.new ≡ map leaf_list leaves.old }
+    ensures chain { IsChain (map leaf_list leaves.old) (map leaf_place leaves.new) result }
+    ensures place { slice_index_or (map leaf_place leaves.new) result TOP ≡ first_from (concat (map leaf_list leaves.old)) to }
+    ensures falls { count_from (concat (map leaf_list leaves.old)) (slice_index_or (map leaf_place leaves.new) result TOP)
+        < count_from (concat (map leaf_list leaves.old)) (slice_index_or (map leaf_place leaves.old) at TOP) }
+    ensures moved { MovesAtMostOne leaves.old leaves.new }
+    ensures one { steps.new ≤ steps.old + 1 }
+{
+    if last_at(leaves, at) >= to {
+        seek_leaf(leaves, at, to, steps);
+        return at;
+    }
+    go_far(leaves, at, to, steps)
 }
 
 /// The element before the chain's place, 0 where there is none.
@@ -150,6 +176,7 @@ impl<'a> Reader for ChainReader<'a> {
     }
 
     /// Goes to the next location, or to `TOP` past the last. It moves at most one leaf.
+    #[inline(always)]
     fn next<L: Ledger>(&mut self, steps: &mut Steps<L>)
         requires sound { ⟦<ChainReader<'a> as Reader>⟧.sound self.old }
         requires below { ⟦<ChainReader<'a> as Reader>⟧.location self.old < TOP }
@@ -167,6 +194,7 @@ impl<'a> Reader for ChainReader<'a> {
     }
 
     /// Goes to the least location at or above `to`, or to `TOP` past the last. It moves at most one leaf.
+    #[inline(always)]
     fn seek<L: Ledger>(&mut self, to: Loc, steps: &mut Steps<L>)
         requires sound { ⟦<ChainReader<'a> as Reader>⟧.sound self.old }
         requires above { ⟦<ChainReader<'a> as Reader>⟧.location self.old < to }

@@ -22,6 +22,7 @@ pub enum Leaf<'a> {
 
 impl<'a> Leaf<'a> {
     /// The greatest location of the list, 0 where it is empty.
+    #[inline(always)]
     pub fn last(&self) -> Loc
         requires { IsSoundLeaf self.now }
         ensures { result ≡ pred_of (leaf_list self.now) TOP }
@@ -46,6 +47,7 @@ impl<'a> Reader for Leaf<'a> {
 
     ghost cost = { λ s. 1 };
 
+    #[inline(always)]
     fn loc(&self) -> Loc {
         match self {
             Leaf::Coded(reader) => reader.loc(),
@@ -54,6 +56,7 @@ impl<'a> Reader for Leaf<'a> {
     }
 
     /// Goes to the next location, or to `TOP` past the last. It adds exactly one step.
+    #[inline(always)]
     fn next<L: Ledger>(&mut self, steps: &mut Steps<L>)
         requires sound { IsSoundLeaf self.old }
         requires below { leaf_place self.old < TOP }
@@ -66,6 +69,7 @@ impl<'a> Reader for Leaf<'a> {
     }
 
     /// Goes to the least location at or above `to`, or to `TOP` past the last. It adds exactly one step.
+    #[inline(always)]
     fn seek<L: Ledger>(&mut self, to: Loc, steps: &mut Steps<L>)
         requires sound { IsSoundLeaf self.old }
         requires above { leaf_place self.old < to }

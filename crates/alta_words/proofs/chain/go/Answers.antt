@@ -1,93 +1,42 @@
-use Rattle.std.proofs.Common.{◌≡◌, ◌≢◌, ℕ, ◌<◌, ◌≤◌, List, [], map, length, get_or, set, refl, ap, ◌∙◌, arith}
+use Rattle.std.proofs.Common.{◌≡◌, ⊎_elim, ℕ, ◌<◌, ◌≤◌, List, [], map, length, get_or, set, ap, ◌∙◌, arith}
 use Rattle.std.specs.List.{concat}
-use Rattle.std.proofs.lemmas.List.{length-map, length-set, get_or-set_same, get_or-set_other}
+use Rattle.std.proofs.lemmas.Bool.{cases_lt}
+use Rattle.std.proofs.lemmas.List.{length-set, get_or_past, get_or-set_same, get_or-set_other}
 use Rattle.alta_codec.specs.declared.location.TheConstants.{TOP}
-use Rattle.alta_codec.specs.Rising.{first_from, count_from}
-use Rattle.alta_words.specs.Chain.{IsChain, chain_place, chain_ends, chain_goes, chain_falls, stays}
+use Rattle.alta_codec.specs.Rising.{first_from, pred_of}
+use Rattle.alta_words.specs.Chain.{IsChain, chain_place, chain_goes, chain_falls}
 use Rattle.alta_words.specs.Leaf.{leaf_list, leaf_place}
 use Rattle.alta_words.proofs.chain.go.Given.{Over}
 use Rattle.alta_words.proofs.chain.go.Goals as goal
-use Rattle.alta_words.proofs.chain.go.Goals.{After-leaf_from-next}
+use Rattle.alta_words.proofs.chain.go.Goals.{After-seek_leaf}
 
--- what is left from the first place at or above `to` is less
-fell : (g : Over) (c : After-leaf_from-next g) (y : ℕ) → y ≡ first_from (concat (map leaf_list c.args.leaves.now)) c.args.to
-    → count_from (concat (map leaf_list c.args.leaves.now)) y < count_from (concat (map leaf_list c.args.leaves.now)) (get_or (map leaf_place c.args.leaves.now) c.args.at TOP)
-fell g c y e =
+-- below a place up to TOP a list is being read
+inside : (hs : List ℕ) (at to : ℕ) → get_or hs at TOP < to → to ≤ TOP → at < length hs
+inside hs at to above top = ⊎_elim (λ l. l) (λ g. absurd (omega (arith, get_or_past hs at TOP g, above, top))) (cases_lt at (length hs))
+
+-- the list that is being read reaches the place, and was moved there
+moved : (ls : List (List ℕ)) (hs : List ℕ) (at to : ℕ) → IsChain ls hs at → get_or hs at TOP < to → to ≤ TOP → to ≤ pred_of (get_or ls at []) TOP
+    → (new : List ℕ) → new ≡ set hs at (first_from (get_or ls at []) to) → IsChain ls new at × (get_or new at TOP ≡ first_from (concat ls) to)
+moved ls hs at to c above top reaches new is =
+    let w = inside hs at to above top in let y = first_from (get_or ls at []) to in
+    chain_goes ls hs at to at c above top (omega arith) (λ k l h. absurd (omega (arith, l, h))) new (omega (arith, w, c.sized)) reaches
+    (ap length is ∙ length-set hs at y) (ap (λ xs. get_or xs at 0) is ∙ get_or-set_same hs at y 0 w)
+    (λ k n. ap (λ xs. get_or xs k 0) is ∙ get_or-set_other hs at k y 0 n)
+
+here : (g : Over) (c : After-seek_leaf g) → IsChain (map leaf_list c.args.leaves.now) (map leaf_place c.seek_leaf.new.leaves) c.args.at
+    × (get_or (map leaf_place c.seek_leaf.new.leaves) c.args.at TOP ≡ first_from (concat (map leaf_list c.args.leaves.now)) c.args.to)
+here g c =
+    moved (map leaf_list c.args.leaves.now) (map leaf_place c.args.leaves.now) c.args.at c.args.to c.requires.chain c.requires.above c.requires.top
+    (omega (arith, c.if-last_at-to.true, c.last_at.ensures)) (map leaf_place c.seek_leaf.new.leaves) c.seek_leaf.ensures.places
+
+pub returns-then-last_at-to-clause-chain : goal.returns-then-last_at-to-clause-chain
+returns-then-last_at-to-clause-chain g c = (here g (goal.at.returns-then-last_at-to-clause-chain g c).After-seek_leaf).0
+
+pub returns-then-last_at-to-clause-place : goal.returns-then-last_at-to-clause-place
+returns-then-last_at-to-clause-place g c = (here g (goal.at.returns-then-last_at-to-clause-place g c).After-seek_leaf).1
+
+pub returns-then-last_at-to-clause-falls : goal.returns-then-last_at-to-clause-falls
+returns-then-last_at-to-clause-falls g c =
     let ls = map leaf_list c.args.leaves.now in let hs = map leaf_place c.args.leaves.now in
-    chain_falls ls ls (get_or hs c.args.at TOP) y c.args.to (chain_place ls hs c.args.at c.requires.chain) (λ z. (λ m. m, λ m. m)) c.requires.above c.requires.top e
-
--- past the last list
-ends : (g : Over) (c : After-leaf_from-next g) → length c.args.leaves.now ≤ c.leaf_from-next.result
-    → IsChain (map leaf_list c.args.leaves.now) (map leaf_place c.args.leaves.now) c.leaf_from-next.result
-    × (get_or (map leaf_place c.args.leaves.now) c.leaf_from-next.result TOP ≡ first_from (concat (map leaf_list c.args.leaves.now)) c.args.to)
-ends g c past =
-    chain_ends (map leaf_list c.args.leaves.now) (map leaf_place c.args.leaves.now) c.args.at c.args.to c.leaf_from-next.result c.requires.chain c.requires.above c.requires.top
-    c.leaf_from-next.ensures.after c.leaf_from-next.ensures.skipped (omega (arith, length-map c.args.leaves.now leaf_list, past))
-    (omega (arith, length-map c.args.leaves.now leaf_list, c.leaf_from-next.ensures.within))
-
--- at the list that reaches the place
-goes : (g : Over) (c : After-leaf_from-next g) (new : List ℕ) → c.leaf_from-next.result < length c.args.leaves.now → length new ≡ length (map leaf_place c.args.leaves.now)
-    → get_or new c.leaf_from-next.result 0 ≡ first_from (get_or (map leaf_list c.args.leaves.now) c.leaf_from-next.result []) c.args.to
-    → ((k : ℕ) → k ≢ c.leaf_from-next.result → get_or new k 0 ≡ get_or (map leaf_place c.args.leaves.now) k 0)
-    → IsChain (map leaf_list c.args.leaves.now) new c.leaf_from-next.result
-    × (get_or new c.leaf_from-next.result TOP ≡ first_from (concat (map leaf_list c.args.leaves.now)) c.args.to)
-goes g c new w size moved others =
-    chain_goes (map leaf_list c.args.leaves.now) (map leaf_place c.args.leaves.now) c.args.at c.args.to c.leaf_from-next.result c.requires.chain c.requires.above c.requires.top
-    c.leaf_from-next.ensures.after c.leaf_from-next.ensures.skipped new (omega (arith, length-map c.args.leaves.now leaf_list, w))
-    (c.leaf_from-next.ensures.found w) size moved others
-
--- a leaf that is there already
-there : (g : Over) (c : After-leaf_from-next g) → c.leaf_from-next.result < length c.args.leaves.now
-    → c.args.to ≤ get_or (map leaf_place c.args.leaves.now) c.leaf_from-next.result 0
-    → IsChain (map leaf_list c.args.leaves.now) (map leaf_place c.args.leaves.now) c.leaf_from-next.result
-    × (get_or (map leaf_place c.args.leaves.now) c.leaf_from-next.result TOP ≡ first_from (concat (map leaf_list c.args.leaves.now)) c.args.to)
-there g c w le =
-    let ls = map leaf_list c.args.leaves.now in let hs = map leaf_place c.args.leaves.now in
-    goes g c hs w refl
-    (stays ls hs c.args.at c.args.to c.leaf_from-next.result c.requires.chain c.requires.above c.requires.top
-    c.leaf_from-next.ensures.after c.leaf_from-next.ensures.skipped (omega (arith, length-map c.args.leaves.now leaf_list, w)) le)
-    (λ k n. refl)
-
--- a leaf that was moved
-moved : (g : Over) (c : After-leaf_from-next g) (new : List ℕ) → c.leaf_from-next.result < length c.args.leaves.now
-    → new ≡ set (map leaf_place c.args.leaves.now) c.leaf_from-next.result (first_from (get_or (map leaf_list c.args.leaves.now) c.leaf_from-next.result []) c.args.to)
-    → IsChain (map leaf_list c.args.leaves.now) new c.leaf_from-next.result
-    × (get_or new c.leaf_from-next.result TOP ≡ first_from (concat (map leaf_list c.args.leaves.now)) c.args.to)
-moved g c new w e =
-    let hs = map leaf_place c.args.leaves.now in let next = c.leaf_from-next.result in
-    let y = first_from (get_or (map leaf_list c.args.leaves.now) next []) c.args.to in
-    goes g c new w (ap length e ∙ length-set hs next y)
-    (ap (λ xs. get_or xs next 0) e ∙ get_or-set_same hs next y 0 (omega (arith, length-map c.args.leaves.now leaf_place, w)))
-    (λ k n. ap (λ xs. get_or xs k 0) e ∙ get_or-set_other hs next k y 0 n)
-
-pub returns-then-next-leaves-clause-place : goal.returns-then-next-leaves-clause-place
-returns-then-next-leaves-clause-place g c = (ends g (goal.at.returns-then-next-leaves-clause-place g c).After-leaf_from-next (omega arith)).1
-
-pub returns-then-next-leaves-clause-falls : goal.returns-then-next-leaves-clause-falls
-returns-then-next-leaves-clause-falls g c = fell g (goal.at.returns-then-next-leaves-clause-falls g c).After-leaf_from-next _ (returns-then-next-leaves-clause-place g c)
-
-pub returns-then-next-leaves-clause-moved : goal.returns-then-next-leaves-clause-moved
-returns-then-next-leaves-clause-moved g c = record { sized = refl; which = 0; others = λ k d n. refl }
-
-pub returns-then-here-to-clause-chain : goal.returns-then-here-to-clause-chain
-returns-then-here-to-clause-chain g c =
-    (there g (goal.at.returns-then-here-to-clause-chain g c).After-leaf_from-next (omega arith) (omega (arith, c.place_at-here.ensures.value))).0
-
-pub returns-then-here-to-clause-place : goal.returns-then-here-to-clause-place
-returns-then-here-to-clause-place g c =
-    (there g (goal.at.returns-then-here-to-clause-place g c).After-leaf_from-next (omega arith) (omega (arith, c.place_at-here.ensures.value))).1
-
-pub returns-then-here-to-clause-falls : goal.returns-then-here-to-clause-falls
-returns-then-here-to-clause-falls g c = fell g (goal.at.returns-then-here-to-clause-falls g c).After-leaf_from-next _ (returns-then-here-to-clause-place g c)
-
-pub returns-then-here-to-clause-moved : goal.returns-then-here-to-clause-moved
-returns-then-here-to-clause-moved g c = record { sized = refl; which = 0; others = λ k d n. refl }
-
-pub returns-clause-chain : goal.returns-clause-chain
-returns-clause-chain g c = (moved g (goal.at.returns-clause-chain g c).After-leaf_from-next _ (omega arith) c.seek_leaf.ensures.places).0
-
-pub returns-clause-place : goal.returns-clause-place
-returns-clause-place g c = (moved g (goal.at.returns-clause-place g c).After-leaf_from-next _ (omega arith) c.seek_leaf.ensures.places).1
-
-pub returns-clause-falls : goal.returns-clause-falls
-returns-clause-falls g c = fell g (goal.at.returns-clause-falls g c).After-leaf_from-next _ (returns-clause-place g c)
+    chain_falls ls ls (get_or hs c.args.at TOP) (get_or (map leaf_place c.seek_leaf.new.leaves) c.args.at TOP) c.args.to (chain_place ls hs c.args.at c.requires.chain)
+    (λ z. (λ m. m, λ m. m)) c.requires.above c.requires.top (returns-then-last_at-to-clause-place g c)
