@@ -6,8 +6,7 @@ use Rattle.alta_disk.specs.Disk.{Holds}
 use Rattle.alta_disk.specs.Writes.{holds_torn}
 use Rattle.alta_disk.proofs.PartLaws.{touches_torn}
 use Rattle.alta_journal.specs.Journal.{Begins, EndsAt, Appends}
-use Rattle.alta_journal.specs.Places.{half_at, HasClosedGate}
-use Rattle.alta_journal.specs.Record.{body_of}
+use Rattle.alta_journal.specs.Places.{half_at, left_behind, HasClosedGate}
 use Rattle.alta_journal.specs.declared.entry.Entry.{Entry}
 use Rattle.alta_journal.proofs.HalfLaws.{half_stays, half_long, half_byte}
 
@@ -40,9 +39,9 @@ module _ (version : ℕ) where
       → EndsAt version start place entries new
   ends_untouched start place entries ranges old new e touches clear = ends_stay start place entries old new e (touches.parts start HALF_BYTES clear) touches.no_shorter
 
-  -- an append touches the record and the next gate
-  pub appends_touch : (start place : ℕ) (entry : Entry) (old new : List ℕ) → Appends version start place entry old new → Touches ((place, 1 + length (body_of entry)) ∷ []) old new
-  appends_touch start place entry old new appends = touches_torn place (1 + length (body_of entry)) ((place, 1 + length (body_of entry)) ∷ []) old new appends.outside (λ a m clear. clear.0)
+  -- an append touches what the half has from its gate on
+  pub appends_touch : (start place : ℕ) (entry : Entry) (old new : List ℕ) → Appends version start place entry old new → Touches ((place, 1 + left_behind start place) ∷ []) old new
+  appends_touch start place entry old new appends = touches_torn place (1 + left_behind start place) ((place, 1 + left_behind start place) ∷ []) old new appends.outside (λ a m clear. clear.0)
 
 -- a format touches one byte
 pub format_touches : (start : ℕ) (old new : List ℕ) → start ≤ length old → Holds old start (GATE_CLOSED ∷ []) new → Touches ((start, 1) ∷ []) old new

@@ -1,3 +1,4 @@
+pub mod Ahead
 pub mod FoundLaws
 pub mod Frames
 pub mod HalfLaws

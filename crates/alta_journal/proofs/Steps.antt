@@ -8,10 +8,10 @@ use Rattle.alta_layout.specs.declared.places.TheConstants.{GATE_OPEN, HALF_BYTES
 use Rattle.alta_disk.specs.Disk.{Holds, Torn}
 use Rattle.alta_disk.specs.Parts.{part}
 use Rattle.alta_disk.specs.Writes.{holds_torn, take_less, drop_less}
-use Rattle.alta_disk.proofs.PartLaws.{part_torn, part_written}
+use Rattle.alta_disk.proofs.PartLaws.{part_torn}
 use Rattle.alta_journal.specs.Entry.{MayBeRecorded, measured, payload_of}
-use Rattle.alta_journal.specs.Journal.{Begins, EndsAt, Appended, Appends}
-use Rattle.alta_journal.specs.Places.{half_at, HasClosedGate}
+use Rattle.alta_journal.specs.Journal.{Begins, EndsAt, Appended, Appends, HasBody}
+use Rattle.alta_journal.specs.Places.{half_at, left_behind, HasClosedGate}
 use Rattle.alta_journal.specs.Record.{record_of, body_of}
 use Rattle.alta_journal.specs.declared.entry.Entry.{Entry}
 use Rattle.alta_journal.proofs.HalfLaws.{half_long, half_take, half_part, half_byte}
@@ -35,7 +35,7 @@ begins_more version entries entry at next half begins sound here next_is inside 
 }
 
 -- a range inside another
-torn_wide : (at n wide_at wide : ℕ) (old new : List ℕ) → wide_at ≤ at → at + n ≤ wide_at + wide → Torn at n old new → Torn wide_at wide old new
+pub torn_wide : (at n wide_at wide : ℕ) (old new : List ℕ) → wide_at ≤ at → at + n ≤ wide_at + wide → Torn at n old new → Torn wide_at wide old new
 torn_wide at n wide_at wide old new from to torn = record {
   before = take_less wide_at at new old from torn.before;
   after = drop_less (at + n) (wide_at + wide) new old to torn.after;
@@ -43,7 +43,7 @@ torn_wide at n wide_at wide old new from to torn = record {
   no_longer = omega (arith, torn.no_longer);
 }
 
-torn_then : (at n : ℕ) (a b c : List ℕ) → Torn at n a b → Torn at n b c → Torn at n a c
+pub torn_then : (at n : ℕ) (a b c : List ℕ) → Torn at n a b → Torn at n b c → Torn at n a c
 torn_then at n a b c one two = record {
   before = two.before ∙ one.before;
   after = two.after ∙ one.after;
@@ -84,15 +84,11 @@ module _ (version start place : ℕ) (entry : Entry) (sound : MayBeRecorded vers
         whole = omega (arith, e.whole);
       }
 
-  -- the bytes behind a gate that are this record's
-  abbrev HasBody : List ℕ → Type 0
-  HasBody z = part (place + 1) (length (body_of entry)) z ≡ body_of entry
-
-  body_inside : (z : List ℕ) → HasBody z → place + 1 + length (body_of entry) ≤ length z
+  body_inside : (z : List ℕ) → HasBody place entry z → place + 1 + length (body_of entry) ≤ length z
   body_inside z here =
       omega (arith, ap length here, length-take (length (body_of entry)) (drop (place + 1) z), length-drop (place + 1) z, body_long entry)
 
-  next_gate : (z : List ℕ) → HasBody z → get_or z (place + length (record_of entry)) 0 ≡ 0
+  next_gate : (z : List ℕ) → HasBody place entry z → get_or z (place + length (record_of entry)) 0 ≡ 0
   next_gate z here =
       let n = length (measured (payload_of entry)) in
       let last : n < length (body_of entry) = omega (arith, length-append (measured (payload_of entry)) (0 ∷ [])) in
@@ -102,11 +98,11 @@ module _ (version start place : ℕ) (entry : Entry) (sound : MayBeRecorded vers
       ∙ get_or_at (measured (payload_of entry)) 0 [] 0 n refl
 
   -- the gate behind the new record is closed
-  pub next_closed : (z : List ℕ) → HasBody z → HasClosedGate (place + length (record_of entry)) z
+  pub next_closed : (z : List ℕ) → HasBody place entry z → HasClosedGate (place + length (record_of entry)) z
   next_closed z here = (omega (arith, body_inside z here, sizes.0), λ is_open. absurd (omega (arith, next_gate z here, is_open)))
 
   -- the new record, its gate open
-  here : (z : List ℕ) → HasBody z → get_or z place 0 ≡ GATE_OPEN → part place (length (record_of entry)) z ≡ record_of entry
+  here : (z : List ℕ) → HasBody place entry z → get_or z place 0 ≡ GATE_OPEN → part place (length (record_of entry)) z ≡ record_of entry
   here z has_body is_open =
       let X = drop (place + 1) z in
       let n = length (measured (payload_of entry)) in
@@ -117,7 +113,7 @@ module _ (version start place : ℕ) (entry : Entry) (sound : MayBeRecorded vers
 
   -- behind an open gate stands the new record
   grows : (entries : List Entry) (d z : List ℕ) → EndsAt version start place entries d → part start (place - start) z ≡ part start (place - start) d → length d ≤ length z
-      → get_or z place 0 ≡ GATE_OPEN → HasBody z → EndsAt version start (place + length (record_of entry)) (entries ++ entry ∷ []) z
+      → get_or z place 0 ≡ GATE_OPEN → HasBody place entry z → EndsAt version start (place + length (record_of entry)) (entries ++ entry ∷ []) z
   grows entries d z e same longer is_open has_body =
       let at = place - start in
       let R = length (record_of entry) in
@@ -136,36 +132,33 @@ module _ (version start place : ℕ) (entry : Entry) (sound : MayBeRecorded vers
         whole = omega (arith, e.whole);
       }
 
-  -- at each moment of the first write
-  pub body_step : (d z : List ℕ) → HasClosedGate place d → Torn (place + 1) (length (body_of entry)) d z → Appends version start place entry d z
-  body_step d z closed torn = record {
-    outside = torn_wide (place + 1) (length (body_of entry)) place (1 + length (body_of entry)) d z (omega arith) (omega arith) torn;
-    entries = λ entries e. inl (keeps entries d z e (part_torn (place + 1) (length (body_of entry)) start (place - start) d z torn (inl (omega (arith, sizes.1)))) torn.no_shorter
+  -- while bytes are written behind the closed gate
+  pub quiet_step : (n : ℕ) → place + 1 + n ≤ start + HALF_BYTES → (d z : List ℕ) → HasClosedGate place d → Torn (place + 1) n d z → Appends version start place entry d z
+  quiet_step n fits d z closed torn = record {
+    outside = torn_wide (place + 1) n place (1 + left_behind start place) d z (omega arith) (omega arith) torn;
+    entries = λ entries e. inl (keeps entries d z e (part_torn (place + 1) n start (place - start) d z torn (inl (omega (arith, sizes.1)))) torn.no_shorter
         (λ is_open. closed.1 (sym (byte_before (place + 1) place d z (omega arith) torn.before) ∙ is_open)));
   }
 
-  -- the gate, whatever it holds, with the body behind it
-  module _ (d b z : List ℕ) (closed : HasClosedGate place d) (written : Holds d (place + 1) (body_of entry) b) (torn : Torn place 1 b z) where
-    done : Torn (place + 1) (length (body_of entry)) d b
-    done = holds_torn d (place + 1) (body_of entry) b (omega (arith, closed.0)) written
-
-    pub has_body : HasBody z
-    has_body = part_torn place 1 (place + 1) (length (body_of entry)) b z torn (inr (omega arith)) ∙ part_written (place + 1) (body_of entry) d b (omega (arith, closed.0)) written
+  -- the gate, whatever it holds, with the body behind it, and behind that what is written ahead
+  module _ (n : ℕ) (fits : place + 1 + n ≤ start + HALF_BYTES) (d b z : List ℕ) (done : Torn (place + 1) n d b) (stands : HasBody place entry b) (torn : Torn place 1 b z) where
+    pub has_body : HasBody place entry z
+    has_body = part_torn place 1 (place + 1) (length (body_of entry)) b z torn (inr (omega arith)) ∙ stands
 
     same_front : part start (place - start) z ≡ part start (place - start) d
     same_front =
         part_torn place 1 start (place - start) b z torn (inl (omega (arith, sizes.1)))
-        ∙ part_torn (place + 1) (length (body_of entry)) start (place - start) d b done (inl (omega (arith, sizes.1)))
+        ∙ part_torn (place + 1) n start (place - start) d b done (inl (omega (arith, sizes.1)))
 
     longer : length d ≤ length z
     longer = omega (arith, done.no_shorter, torn.no_shorter)
 
-    -- at each moment of the second write
+    -- at each moment of the gate's write
     pub gate_step : Appends version start place entry d z
     gate_step = record {
-      outside = torn_then place (1 + length (body_of entry)) d b z
-          (torn_wide (place + 1) (length (body_of entry)) place (1 + length (body_of entry)) d b (omega arith) (omega arith) done)
-          (torn_wide place 1 place (1 + length (body_of entry)) b z (omega arith) (omega arith) torn);
+      outside = torn_then place (1 + left_behind start place) d b z
+          (torn_wide (place + 1) n place (1 + left_behind start place) d b (omega arith) (omega arith) done)
+          (torn_wide place 1 place (1 + left_behind start place) b z (omega arith) (omega arith) torn);
       entries = λ entries e. ⊎_elim (λ is_open. inr (grows entries d z e same_front longer is_open has_body)) (λ shut. inl (keeps entries d z e same_front longer shut)) (cases_eq (get_or z place 0) GATE_OPEN);
     }
 

@@ -1,13 +1,13 @@
 -- What the bytes of a half say: entries up to a closed gate, or a first record that breaks a rule.
-use Rattle.std.specs.Prelude.{◌≡◌, ◌≢◌, ◌⊎◌, ℕ, ◌+◌, ◌-◌, ◌≤◌, ◌<◌, List, [], ◌∷◌, ◌++◌, length, take, get_or}
+use Rattle.std.specs.Prelude.{◌≡◌, ◌≢◌, ◌⊎◌, ℕ, ◌+◌, ◌-◌, ◌≤◌, ◌<◌, List, [], ◌∷◌, ◌++◌, length, take, get_or, Option, Some, None}
 use Rattle.std.specs.List.{All, flat_map}
 use Rattle.alta_layout.specs.declared.places.TheConstants.{GATE_OPEN, HEAD_BYTES}
 use Rattle.alta_disk.specs.Disk.{Torn}
 use Rattle.alta_disk.specs.Parts.{part}
 use Rattle.alta_journal.specs.Entry.{MayBeRecorded}
-use Rattle.alta_journal.specs.Places.{half_at, HasClosedGate}
+use Rattle.alta_journal.specs.Places.{half_at, left_behind, HasClosedGate}
 use Rattle.alta_journal.specs.Reading.{of_four}
-use Rattle.alta_journal.specs.Record.{record_of, body_of}
+use Rattle.alta_journal.specs.Record.{Record, record_of, body_of}
 use Rattle.alta_journal.specs.declared.entry.Entry.{Entry}
 
 -- Under a root of this version the half begins with the records of these entries, one behind the other, and behind them, at `at`, there is a gate.
@@ -28,12 +28,29 @@ abbrev pub Appended : ℕ → ℕ → ℕ → Entry → List ℕ → List ℕ �
 Appended version start place entry old new =
     (entries : List Entry) → EndsAt version start place entries old → EndsAt version start (place + length (record_of entry)) (entries ++ entry ∷ []) new
 
--- What an append may leave at any moment: the entries of before, with the new one or without, and each byte outside
--- the record and the next gate.
+-- What an append may leave at any moment: the entries that were there, with the new one or without, and each byte outside
+-- of what the half has from the gate on.
 pub record Appends (version start place : ℕ) (entry : Entry) (old new : List ℕ) : Type 0 where
-  pub outside : Torn place (1 + length (body_of entry)) old new
+  pub outside : Torn place (1 + left_behind start place) old new
   pub entries : (entries : List Entry) → EndsAt version start place entries old
       → EndsAt version start place entries new ⊎ EndsAt version start (place + length (record_of entry)) (entries ++ entry ∷ []) new
+
+-- these bytes stand at this place
+abbrev pub HasBytes : ℕ → List ℕ → List ℕ → Type 0
+HasBytes place bytes image = part place (length bytes) image ≡ bytes
+
+-- the body of this entry's record stands behind the gate at this place
+abbrev pub HasBody : ℕ → Entry → List ℕ → Type 0
+HasBody place entry image = HasBytes (place + 1) (body_of entry) image
+
+-- what is written behind a closed gate for the record to come, where there is one
+abbrev pub bytes_ahead : Option Record → List ℕ
+bytes_ahead None = []
+bytes_ahead (Some ready) = body_of ready.entry
+
+-- it stands behind the gate at this place
+abbrev pub StandsAhead : ℕ → Option Record → List ℕ → Type 0
+StandsAhead place ahead image = HasBytes (place + 1) (bytes_ahead ahead) image
 
 -- The length of the record whose gate stands at `at` leaves no room in the half for the next gate.
 abbrev pub LeavesNoRoom : ℕ → List ℕ → Type 0

@@ -12,7 +12,7 @@ mod record;
 mod replaying;
 mod tail;
 
-pub use appending::{JournalFault, append, close_half};
+pub use appending::{JournalFault, append, append_ahead, close_half};
 pub use entry::Entry;
 pub use laws::{a_half_is_read_in_one_way, a_half_is_read_or_broken};
 pub use placed::Placed;

@@ -6,7 +6,8 @@ use Rattle.alta_layout.specs.Places.{half_start}
 use Rattle.alta_disk.specs.Parts.{Touches}
 use Rattle.alta_journal.specs.Journal.{EndsAt, Appended, Appends}
 use Rattle.alta_journal.specs.Placed.{placed}
-use Rattle.alta_journal.specs.Record.{record_of, body_of}
+use Rattle.alta_journal.specs.Places.{left_behind}
+use Rattle.alta_journal.specs.Record.{record_of}
 use Rattle.alta_journal.specs.declared.entry.Entry.{Entry}
 use Rattle.alta_journal.proofs.Frames.{appends_touch}
 use Rattle.alta_machine.specs.declared.document.State.{State}
@@ -46,17 +47,17 @@ placed_more place (first ∷ entries) entry known k e admitted =
     ∙ placed_more (place + length (record_of first)) entries entry known (known_behind k first) (sym (ap (behind_first k place first entries) here) ∙ e) admitted)
     (λ never. absurd (not_both (place + 5) known (sym (ap (behind_first k place first entries) never) ∙ e)))
 
--- ---- what the record spares
+-- ---- what an append spares
 
-module _ (o : Opened) (entry : Entry) (old new : List ℕ) (sound : IsSound (length old) o.root) (named : IsNamed o old) (may : MayAppend entry o named.known) (touches : Touches ((o.tail, 1 + length (body_of entry)) ∷ []) old new) where
-  slots_spared : SparesSlots ((o.tail, 1 + length (body_of entry)) ∷ [])
+module _ (o : Opened) (entry : Entry) (old new : List ℕ) (sound : IsSound (length old) o.root) (named : IsNamed o old) (may : MayAppend entry o named.known) (touches : Touches ((o.tail, 1 + left_behind (half_start o.slot) o.tail) ∷ []) old new) where
+  slots_spared : SparesSlots ((o.tail, 1 + left_behind (half_start o.slot) o.tail) ∷ [])
   slots_spared = let half = journal_within o.slot in (inl (omega (arith, half.0, named.journal.starts)), tt)
 
   same : All (IsSame old new) (extents_of o.root)
   same =
       let half = journal_within o.slot in
-      extents_same ((o.tail, 1 + length (body_of entry)) ∷ []) old new (extents_of o.root) touches
-      (extents_clear o.tail (1 + length (body_of entry)) (length old) o.root (omega (arith, half.1, may.fits)) sound)
+      extents_same ((o.tail, 1 + left_behind (half_start o.slot) o.tail) ∷ []) old new (extents_of o.root) touches
+      (extents_clear o.tail (1 + left_behind (half_start o.slot) o.tail) (length old) o.root (omega (arith, half.1, may.fits)) sound)
 
   -- the entry is one more
   named_more : EndsAt o.root.version (half_start o.slot) (o.tail + length (record_of entry)) (o.entries ++ entry ∷ []) new → IsNamed (with_entry o entry) new
@@ -95,7 +96,7 @@ pub opened_appending : (o : Opened) (entry : Entry) (old new : List ℕ) (opened
 opened_appending o entry old new opened may appends =
     let sound = counts_sound o.slot o.root old opened.counts in
     let touches = appends_touch o.root.version (half_start o.slot) o.tail entry old new appends in
-    let counts = counts_on o.slot o.root ((o.tail, 1 + length (body_of entry)) ∷ []) old new opened.counts touches (slots_spared o entry old new sound opened.named may touches) in
+    let counts = counts_on o.slot o.root ((o.tail, 1 + left_behind (half_start o.slot) o.tail) ∷ []) old new opened.counts touches (slots_spared o entry old new sound opened.named may touches) in
     ⊎_elim (λ still. inl (record { counts = counts; named = named_still o entry old new sound opened.named may touches still }))
     (λ more. inr (record { counts = counts; named = named_more o entry old new sound opened.named may touches more })) (appends.entries o.entries opened.named.journal)
 
@@ -106,7 +107,7 @@ opened_appended o entry old new opened may appends appended =
     let sound = counts_sound o.slot o.root old opened.counts in
     let touches = appends_touch o.root.version (half_start o.slot) o.tail entry old new appends in
     record {
-      counts = counts_on o.slot o.root ((o.tail, 1 + length (body_of entry)) ∷ []) old new opened.counts touches (slots_spared o entry old new sound opened.named may touches);
+      counts = counts_on o.slot o.root ((o.tail, 1 + left_behind (half_start o.slot) o.tail) ∷ []) old new opened.counts touches (slots_spared o entry old new sound opened.named may touches);
       named = named_more o entry old new sound opened.named may touches (appended o.entries opened.named.journal);
     }
 
@@ -114,7 +115,7 @@ state_more : (s : State) (o : Opened) (entry : Entry) (levels : List Level) → 
 state_more s o entry levels is = after_more (rooted (view_of o levels)) o.entries entry ∙ ap (λ (t : State). after_entry t entry) is
 
 -- The same of states. Which entry is admitted is asked over what opening found.
-stands_more : (s : State) (entry : Entry) (old new : List ℕ) (stands : StandsFor s old) → MayAppend entry stands.opened stands.means.named.known → Touches ((stands.opened.tail, 1 + length (body_of entry)) ∷ []) old new
+stands_more : (s : State) (entry : Entry) (old new : List ℕ) (stands : StandsFor s old) → MayAppend entry stands.opened stands.means.named.known → Touches ((stands.opened.tail, 1 + left_behind (half_start stands.opened.slot) stands.opened.tail) ∷ []) old new
     → EndsAt stands.opened.root.version (half_start stands.opened.slot) (stands.opened.tail + length (record_of entry)) (stands.opened.entries ++ entry ∷ []) new → StandsFor (after_entry s entry) new
 stands_more s entry old new stands may touches more =
     let o = stands.opened in
@@ -122,7 +123,7 @@ stands_more s entry old new stands may touches more =
     let sound = counts_sound o.slot o.root old stands.counts in
     record {
       opened = with_entry o entry;
-      counts = counts_on o.slot o.root ((o.tail, 1 + length (body_of entry)) ∷ []) old new stands.counts touches (slots_spared o entry old new sound named may touches);
+      counts = counts_on o.slot o.root ((o.tail, 1 + left_behind (half_start o.slot) o.tail) ∷ []) old new stands.counts touches (slots_spared o entry old new sound named may touches);
       means = record {
         named = named_more o entry old new sound named may touches more;
         levels = stands.means.levels;
@@ -141,7 +142,7 @@ stands_appending s entry old new stands may appends =
     ⊎_elim
     (λ still. inl (record {
       opened = o;
-      counts = counts_on o.slot o.root ((o.tail, 1 + length (body_of entry)) ∷ []) old new stands.counts touches (slots_spared o entry old new sound named may touches);
+      counts = counts_on o.slot o.root ((o.tail, 1 + left_behind (half_start o.slot) o.tail) ∷ []) old new stands.counts touches (slots_spared o entry old new sound named may touches);
       means = record {
         named = named_still o entry old new sound named may touches still;
         levels = stands.means.levels;
