@@ -4,7 +4,6 @@ from __future__ import annotations
 
 import os
 import re
-import resource
 import signal
 import stat
 from typing import Optional
@@ -309,6 +308,8 @@ def holds_something_else(path):
 
 def disk_cause(path: str) -> Optional[str]:
     """Why the file at the path may be one that can't be read or written, as far as the system tells, or None."""
+    import resource
+
     folder = os.path.dirname(os.path.abspath(path))
     try:
         found = os.stat(path)

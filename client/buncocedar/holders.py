@@ -24,15 +24,15 @@ TURN = ".turn.alta"  # how the name of the file ends whose lock is the turn to o
 
 
 @contextlib.contextmanager
-def turn(path):
-    """Whether it is this client's turn to open the index at this path: no program has the file then.
+def turn(path, waits=False):
+    """Whether it is this client's turn to open the index at this path: no program has the file then. `waits` says that it asked before.
 
     The program locks the file itself, and ends where another has it. So that no two clients start one at once, each holds
     the lock of an empty file beside the index until its program has that, and takes it away then. Where none can be made it
     is the lock of the folder, and where there are no locks it is always its turn.
     """
-    if _owner(path) is not None:
-        # Who waits looks time and again, and makes no file each time.
+    if waits and _owner(path) is not None:
+        # Who waits looks time and again, and makes no file each time. The system may take ten milliseconds to list its locks.
         yield False
         return
     folder, name = os.path.split(os.path.realpath(path))

@@ -55,7 +55,9 @@ class Index(Commands):
     ) -> None:
         self.path = os.fsdecode(path)
         waiting = Waiting(self.path, patience, on_wait)
-        while not (server is not False and self._is_served(waiting) or self._is_started(create, program or default_program())):
+        waits = False
+        while not (server is not False and self._is_served(waiting) or self._is_started(create, program or default_program(), waits)):
+            waits = True
             if waiting.is_over():
                 raise in_use(self.path)
 
@@ -69,13 +71,13 @@ class Index(Commands):
             return False
         return service is not None
 
-    def _is_started(self, create, program):
+    def _is_started(self, create, program, waits):
         """Opens the index by a program of its own, where no other one has it."""
         if create and not holds_bytes(self.path):
             make_index(program, self.path)
         if not os.path.exists(self.path):
             raise NoFile(self.path)
-        with turn(self.path) as is_free:
+        with turn(self.path, waits) as is_free:
             try:
                 if is_free:
                     self._begin(Program(program, self.path))

@@ -6,7 +6,6 @@
 
 import argparse
 import contextlib
-import gc
 import os
 import signal
 import sys
@@ -18,6 +17,7 @@ from ..document import NoText
 from ..errors import Error
 from ..fileformat import LEVELS, Unusable
 from ..index import Index
+from ..lasting import lasting
 from ..lines import add_line
 from ..shards import is_address, open_index
 from .engine import Import, Options
@@ -100,19 +100,6 @@ def bring_into(log, path, sources, options):
             if statuses[-1] not in (0, SOME_REFUSED):
                 break
     return max(statuses)
-
-
-@contextlib.contextmanager
-def lasting():
-    """What is made meanwhile is needed up to the end: the collector of what nobody needs does not look through it time and again."""
-    was_enabled = gc.isenabled()
-    gc.disable()
-    try:
-        yield
-    finally:
-        gc.freeze()
-        if was_enabled:
-            gc.enable()
 
 
 def ended(done, index, interrupts, is_last):

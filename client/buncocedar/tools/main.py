@@ -1,10 +1,13 @@
 """The command `bunco`: one word for each thing that is done with an index."""
 
+import gc
 import importlib
 import os
 import signal
 import sys
 from typing import List, NamedTuple, Optional
+
+from ..lasting import lasting
 
 BAD_USE = 2
 STOPPED = 3
@@ -107,7 +110,9 @@ def run(words: List[str]) -> int:
         return BAD_USE
     command = named(words[0])
     if command is not None:
-        return command.load().main(words[1:])
+        with lasting():
+            module = command.load()
+        return module.main(words[1:])
     if words[0] in WORDS:
         return WORDS[words[0]](words[1:])
     print(f"bunco: {words[0]} is no command: bunco --help lists them", file=sys.stderr)
@@ -147,6 +152,8 @@ def main(arguments: Optional[List[str]] = None) -> int:
         return STOPPED
     finally:
         signal.signal(signal.SIGINT, signal.SIG_DFL)
+        # All goes with the process: Python's collector need not look through it before.
+        gc.freeze()
 
 
 def flushed(status: int) -> int:
