@@ -1,8 +1,9 @@
 #!/usr/bin/env python3
 """Refuses a wrong body whose refusal shows nothing: .ci/refusals.py [LOG]
 
-LOG is what `rt ci` or `rt must-fail` has printed; without it, this runs `rt must-fail` for all crates. The gate does not run it yet: of the
-clauses that the edits name 31 were seen to refuse them, and the others were taken from reading the contracts.
+LOG is what `rt ci` or `rt must-fail` has printed; without it, this runs `rt must-fail` for all crates. Both print the line of an edit
+also where they keep what an earlier run came to, so each edit has to have one. The last line says how many were tried in that run, and
+how many were kept.
 
 Each wrong body is a file crates/NAME/must-fail/EDIT.edit. Its line `clause: WORD` names what it breaks: a clause of a contract
 (`lazy`), `returns` where the function's one clause has no name, or the label of the loop whose invariant it breaks. The prover's
@@ -18,8 +19,9 @@ import re
 import subprocess
 import sys
 
-MOST = 110
+MOST = 75
 TRIED = re.compile(r"(?:rt: )?must-fail (\w+)/([\w.-]+)\.edit: (.*)")
+KEPT = re.compile(r"(?:rt: )?\w+: (\d+) of its \d+ must-fail edits were tried by an earlier run on this machine")
 REFUSED = "refused, as it must be"
 NAMES = "only because a proof file names what the edit took away"
 CLAUSE = re.compile(r"^clause: (\S+)$", re.MULTILINE)
@@ -64,11 +66,18 @@ def fault_of(said, clause):
 def faults_in(lines, edits):
     """What is wrong with the edits, of which each has to be in these lines."""
     said = {(match[1], match[2]): match[3] for match in map(TRIED.match, lines) if match}
-    faults = [f"{crate}/{edit}: not tried" for crate, edit in sorted(edits.keys() - said.keys())]
+    faults = [] if edits else ["there is no wrong body"]
+    faults += [f"{crate}/{edit}: not tried" for crate, edit in sorted(edits.keys() - said.keys())]
     for crate, edit in sorted(edits.keys() & said.keys()):
         why = fault_of(said[crate, edit], edits[crate, edit])
         faults += [f"{crate}/{edit}: {why}"] if why else []
     return faults + ([f"{len(edits)} wrong bodies, where {MOST} are the most"] if len(edits) > MOST else [])
+
+
+def counts_in(lines):
+    """How many edits were tried in the run of these lines, and of how many it kept what an earlier run came to."""
+    kept = sum(int(match[1]) for match in map(KEPT.match, lines) if match)
+    return sum(bool(TRIED.match(line)) for line in lines) - kept, kept
 
 
 def test_itself():
@@ -91,8 +100,12 @@ def test_itself():
         if (fault_of(said, clause) is None) != shows:
             raise SystemExit(f"refusals: the check itself fails: {said} {clause}")
     edits = {("a", "one"): "lazy", ("a", "two"): "lazy"}
-    if faults_in(["rt: must-fail a/one.edit: " + rows[0][0], "rt: a proved"], edits) != ["a/two: not tried"]:
+    lines = ["rt: must-fail a/one.edit: " + rows[0][0], "rt: a proved"]
+    if faults_in(lines, edits) != ["a/two: not tried"] or not faults_in(lines, {}):
         raise SystemExit("refusals: the check itself fails: not tried")
+    earlier = "rt: a: 1 of its 2 must-fail edits were tried by an earlier run on this machine, and nothing that they stand on has changed"
+    if counts_in([earlier, *lines, "rt: must-fail a/two.edit: " + rows[0][0]]) != (1, 1):
+        raise SystemExit("refusals: the check itself fails: kept")
 
 
 def main():
@@ -107,7 +120,8 @@ def main():
     faults = faults_in(lines, edits)
     for fault in faults:
         print(f"refusals: {fault}")
-    print(f"refusals: {len(edits)} wrong bodies, {len(faults)} faults")
+    tried, kept = counts_in(lines)
+    print(f"refusals: {len(edits)} wrong bodies, {tried} tried now and {kept} kept from earlier runs, {len(faults)} faults")
     return 1 if faults else 0
 
 
