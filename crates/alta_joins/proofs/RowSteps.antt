@@ -6,6 +6,8 @@ use Rattle.std.proofs.lemmas.List.Sums.{sum_by-cons}
 use Rattle.alta_content.specs.TermList.{TermList}
 use Rattle.alta_content.specs.declared.document.DocRow.{DocRow}
 use Rattle.alta_level.proofs.Progress.{Progress}
+use Rattle.alta_table.specs.Places.{TermAt}
+use Rattle.alta_table.specs.Tables.{Tables}
 use Rattle.alta_table.specs.Terms.{HasEnd, counts_of, data_bytes, data_of, streams_of, summaries_of, terms_of}
 use Rattle.alta_table.specs.declared.term.TermRow.{TermRow}
 
@@ -51,3 +53,7 @@ module _ (documents : List DocRow) (rows : List TermRow) (streams : List ℕ) (s
   -- the next row is row i
   pub next_row : i < length rows → Progress documents rows streams start read (row_of rows i ∷ drop (i + 1) rows) rest at
   next_row l = subst (λ (left : List TermRow). Progress documents rows streams start read left rest at) (rows_from rows i l) h
+
+-- the row at which a cursor stands
+pub cursor_row : (at : TermAt) (level : Tables) (i : ℕ) → at.tables ≡ level → at.row ≡ i → row_of at.tables.terms at.row ≡ row_of level.terms i
+cursor_row at level i tables here = ap (λ (t : Tables). row_of t.terms at.row) tables ∙ ap (λ (k : ℕ). row_of level.terms k) here

@@ -20,7 +20,7 @@ use alta_codec::{Extent, Loc};
 use alta_content::{Content, DocRows, TermLists};
 use alta_disk::{Disk, LoadFault, read_part};
 use alta_level::{StoredList, read_list, segments_read_back};
-use alta_table::{LevelFault, OpenLevel};
+use alta_table::{LevelFault, OpenLevel, TermCursor};
 use std::alloc::Global;
 use std::default::MadeWith;
 
@@ -121,15 +121,16 @@ fn lists_in(
     let mut places = Vec::new(alloc);
     let mut rest = bytes;
     let mut at = place;
+    let mut cursor = level.first();
     for row in 0..level.terms() {
-        let (stream, summary) = level.stream_place(row);
+        let (stream, summary) = cursor.stream_place();
         let len = stream.bytes + summary.bytes;
         match put_row(
             &mut lists,
             &mut locations,
             &mut places,
             level,
-            row,
+            &cursor,
             rest,
             at,
         ) {
@@ -139,29 +140,30 @@ fn lists_in(
         let (_list, behind) = rest.split_at(len as usize);
         rest = behind;
         at += len;
+        cursor.next();
     }
     Ok(lists)
 }
 
-// Puts the list of a row, whose stream begins the bytes, which begin at a place. Its locations are left in `locations`.
+// Puts the list of the row at which a cursor stands. Its stream begins the bytes, which begin at a place. Its locations are left in
+// `locations`.
 fn put_row(
     lists: &mut TermLists,
     locations: &mut Vec<Loc>,
     places: &mut Vec<u64>,
     level: &OpenLevel,
-    row: usize,
+    cursor: &TermCursor<'_>,
     bytes: &[u8],
     place: u64,
 ) -> Result<(), LoadFault>
-    requires row { row < length level.now.terms }
-    requires whole { (row_at level.now row).stream + (row_at level.now row).summary ≤ length bytes.now }
+    requires whole { (row_at cursor.now.tables cursor.now.row).stream + (row_at cursor.now.tables cursor.now.row).summary ≤ length bytes.now }
     requires below { place + length bytes.now < 2 ^ 64 }
-    ensures put { IfOk result (λ x. lists.new ≡ lists.old ++ (record { term = (row_at level.now row).term; locations = locations.new.items }) ∷ []) }
-    ensures found { IfOk result (λ x. IsListOf level.now.documents (stored_at (row_at level.now row) bytes.now place) locations.new.items) }
-    ensures first { IfDamaged result (IsListFault level.now.documents (stored_at (row_at level.now row) bytes.now place)) }
+    ensures put { IfOk result (λ x. lists.new ≡ lists.old ++ (record { term = (row_at cursor.now.tables cursor.now.row).term; locations = locations.new.items }) ∷ []) }
+    ensures found { IfOk result (λ x. IsListOf level.now.documents (stored_at (row_at cursor.now.tables cursor.now.row) bytes.now place) locations.new.items) }
+    ensures first { IfDamaged result (IsListFault level.now.documents (stored_at (row_at cursor.now.tables cursor.now.row) bytes.now place)) }
     ensures lean { result ≢ Err DiskFault }
 {
-    let list = stored(level, row, bytes, place);
+    let list = stored(cursor, bytes, place);
     match read_list(locations, places, &list, level.rows()) {
         Ok(()) => {
             lists.put(list.term, locations)?;
@@ -172,14 +174,13 @@ fn put_row(
     }
 }
 
-// The list of a row, as it stands at the front of these bytes.
-fn stored<'a>(level: &'a OpenLevel, row: usize, bytes: &'a [u8], place: u64) -> StoredList<'a>
-    requires row { row < length level.now.terms }
-    requires whole { (row_at level.now row).stream + (row_at level.now row).summary ≤ length bytes.now }
+// The list of the row at which a cursor stands, as it stands at the front of these bytes.
+fn stored<'a>(cursor: &'a TermCursor<'_>, bytes: &'a [u8], place: u64) -> StoredList<'a>
+    requires whole { (row_at cursor.now.tables cursor.now.row).stream + (row_at cursor.now.tables cursor.now.row).summary ≤ length bytes.now }
     requires below { place + length bytes.now < 2 ^ 64 }
-    ensures { stored_of result ≡ stored_at (row_at level.now row) bytes.now place }
+    ensures { stored_of result ≡ stored_at (row_at cursor.now.tables cursor.now.row) bytes.now place }
 {
-    let (first, second) = level.stream_place(row);
+    let (first, second) = cursor.stream_place();
     let (stream, behind) = bytes.split_at(first.bytes as usize);
     let (summary, _rest) = behind.split_at(second.bytes as usize);
     StoredList {
@@ -187,7 +188,7 @@ fn stored<'a>(level: &'a OpenLevel, row: usize, bytes: &'a [u8], place: u64) -> 
         stream_place: place,
         summary,
         summary_place: place + first.bytes,
-        term: level.term(row),
-        count: level.count(row),
+        term: cursor.term(),
+        count: cursor.count(),
     }
 }

@@ -8,6 +8,7 @@ use Rattle.alta_meaning.proofs.Tests.{by_test}
 use Rattle.alta_level.specs.Stored.{Stored}
 use Rattle.alta_loading.specs.Lists.{stored_as}
 use Rattle.alta_loading.specs.Loads.{row_from}
+use Rattle.alta_table.specs.Places.{TermAt}
 use Rattle.alta_table.specs.Tables.{Tables}
 use Rattle.alta_table.specs.Terms.{AreTerms, AreTermsBehind, counts_of, terms_of}
 use Rattle.alta_table.specs.declared.term.TermRow.{TermRow}
@@ -72,3 +73,8 @@ row_counted rows i a l = counted_behind [] rows i a l
 -- the list of a row by its bytes
 pub stored_same : (level : Tables) (row : ℕ) (s : Stored) (x y stream summary : List ℕ) → s ≡ stored_as level row x y → x ≡ stream → y ≡ summary → s ≡ stored_as level row stream summary
 stored_same level row s x y stream summary is a b = is ∙ ap (λ z. stored_as level row z y) a ∙ ap (λ z. stored_as level row stream z) b
+
+-- the term of the row at which a cursor stands
+pub term_at : (at : TermAt) (level : Tables) (row : ℕ) (term : List ℕ) → at.tables ≡ level → at.row ≡ row → slice_get (terms_of at.tables.terms) at.row ≡ Some term → slice_get (terms_of level.terms) row ≡ Some term
+term_at at level row term tables here is =
+    ap (λ (t : Tables). slice_get (terms_of t.terms) row) (sym tables) ∙ ap (λ (k : ℕ). slice_get (terms_of at.tables.terms) k) (sym here) ∙ is

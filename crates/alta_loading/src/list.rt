@@ -1,5 +1,5 @@
 // One list of a level.
-ghost use Rattle.std.specs.Prelude.{◌≡◌, ℕ, ◌+◌, ◌<◌, ◌^◌, List, length, Err, IfOk};
+ghost use Rattle.std.specs.Prelude.{◌≡◌, ℕ, ◌+◌, ◌<◌, ◌^◌, List, length, slice_get, Err, Some, IfOk};
 ghost use Rattle.alta_content.specs.Rows.{AreDocuments};
 ghost use Rattle.alta_disk.specs.Calls.{Retrieves};
 ghost use Rattle.alta_disk.specs.Disk.{DiskState};
@@ -9,6 +9,7 @@ ghost use Rattle.alta_disk.specs.Answers.{IfDamaged, IsDamaged, IsFound};
 ghost use Rattle.alta_loading.specs.Lists.{KeepsRow, LiesWithin, stored_as, stored_in, stream_size, summary_size};
 ghost use Rattle.alta_disk.specs.declared.fault.LoadFault.TheVariants.{Disk as DiskFault};
 ghost use Rattle.alta_table.specs.Places.{stream_place};
+ghost use Rattle.alta_table.specs.Terms.{terms_of};
 
 use alta_disk::{Disk, LoadFault, read_part};
 use alta_level::{StoredList, check_list};
@@ -90,7 +91,8 @@ fn checked(
     ensures some { IfOk result (λ posting. 0 < length posting) }
     ensures lean { result ≡ Err DiskFault → ⊥ }
 {
-    let list = stored(table, row, &stream, &summary);
+    let cursor = table.at(row);
+    let list = stored(table, row, cursor.term(), &stream, &summary);
     match check_list(&list, table.rows()) {
         Ok(bounds) => Ok(Posting::of(stream, summary, bounds)),
         Err(LevelFault::Damaged(place)) => Err(LoadFault::Damaged(place)),
@@ -98,14 +100,16 @@ fn checked(
     }
 }
 
-// The list of a row, of these bytes.
+// The list of a row, which has this term, of these bytes.
 fn stored<'a>(
-    table: &'a OpenLevel,
+    table: &OpenLevel,
     row: usize,
+    term: &'a [u8],
     stream: &'a [u8],
     summary: &'a [u8],
 ) -> StoredList<'a>
-    requires { row < length table.now.terms }
+    requires row { row < length table.now.terms }
+    requires term { slice_get (terms_of table.now.terms) row ≡ Some term.now }
     ensures { stored_of result ≡ stored_as table.now row stream.now summary.now }
 {
     let (place, behind) = table.stream_place(row);
@@ -114,7 +118,7 @@ fn stored<'a>(
         stream_place: place.place,
         summary,
         summary_place: behind.place,
-        term: table.term(row),
+        term,
         count: table.count(row),
     }
 }

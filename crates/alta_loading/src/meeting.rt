@@ -1,5 +1,5 @@
 // The terms that meet a test.
-ghost use Rattle.std.specs.Prelude.{◌≡◌, ◌++◌, ◌<◌, flat_map, length, slice_get, Some, IfOk, OnOk};
+ghost use Rattle.std.specs.Prelude.{◌≡◌, ◌++◌, flat_map, slice_get, Some, IfOk, OnOk};
 ghost use Rattle.std.specs.Cmp.Lexicographic.{slice_cmp};
 ghost use Rattle.std.specs.List.{dedup, filter, list_any};
 ghost use Rattle.std.specs.List.Sorted.{IsPermutation, IsSorted};
@@ -13,7 +13,7 @@ ghost use Rattle.alta_search.specs.Newest.{HasAdded, term_meets};
 use alta_codec::Bytes;
 use alta_machine::Test;
 use alta_memlevel::MemLevel;
-use alta_table::OpenLevel;
+use alta_table::{OpenLevel, TermCursor};
 use std::alloc::{AllocError, Global};
 
 /// The terms of levels and of the newest documents that meet a test, in collating order, each once. A term in full is looked
@@ -121,18 +121,22 @@ fn put_prefixed(
     ensures { OnOk result (all.new.items ≡ all.old.items ++ level_terms_met (Test.Begins start.now) level.now) }
 {
     let (first, behind) = level.prefixed(start.as_slice());
+    if first == behind {
+        return Ok(());
+    }
+    let mut cursor = level.at(first);
     for row in first..behind {
-        all.push(copy_term(alloc, level, row)?)?;
+        all.push(copy_term(alloc, &cursor)?)?;
+        cursor.next();
     }
     Ok(())
 }
 
-// The term of a row, in memory of its own.
-fn copy_term(alloc: Global, level: &OpenLevel, row: usize) -> Result<Bytes, AllocError>
-    requires { row < length level.now.terms }
-    ensures { IfOk result (λ term. slice_get (level_terms level.now) row ≡ Some term) }
+// The term of the row at which a cursor stands, in memory of its own.
+fn copy_term(alloc: Global, cursor: &TermCursor<'_>) -> Result<Bytes, AllocError>
+    ensures { IfOk result (λ term. slice_get (level_terms cursor.now.tables) cursor.now.row ≡ Some term) }
 {
-    let term = Vec::from_slice(alloc, level.term(row))?;
+    let term = Vec::from_slice(alloc, cursor.term())?;
     Ok(Bytes::from_vec(term))
 }
 

@@ -31,7 +31,8 @@ fn order_at(level: &OpenLevel, term: &[u8], place: usize) -> Ordering
     ensures { result ≡ order_to term.now (slice_get (level_terms level.now) place) }
 {
     if place < level.terms() {
-        level.term(place).cmp(term)
+        let cursor = level.at(place);
+        cursor.term().cmp(term)
     } else {
         Ordering::Greater
     }

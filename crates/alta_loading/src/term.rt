@@ -213,7 +213,8 @@ fn counts_all_ends(level: &OpenLevel, row: usize) -> bool
     ensures ends { IsTrue result → (image : List ℕ) → AreEndsWhole Ends.Tested image (level.now ∷ []) → IsAllEnds image (record { number = 0; level = level.now; row = row }) }
     ensures kept { IsTrue result → KeepsRow level.now row (ends_of level.now.documents) }
 {
-    if !is_end_term(level.term(row)) {
+    let cursor = level.at(row);
+    if !is_end_term(cursor.term()) {
         return false;
     }
     level.count(row) == level.documents().len() as u64
@@ -238,7 +239,8 @@ fn held(level: &OpenLevel, row: usize, posting: Posting) -> Result<Stored, Alloc
     requires keeps { KeepsRow level.now row posting }
     ensures { IfOk result (λ stored. stored_list stored ≡ posting) }
 {
-    if is_end_term(level.term(row)) {
+    let cursor = level.at(row);
+    if is_end_term(cursor.term()) {
         Ok(Stored::Ends(level.rows().clone()?))
     } else {
         Ok(Stored::Coded(posting))

@@ -4,10 +4,12 @@ use Rattle.std.proofs.lemmas.Option.{slice_get_past}
 use Rattle.alta_loading.specs.Met.{level_terms}
 use Rattle.alta_loading.specs.Near.{order_to}
 use Rattle.alta_table.specs.declared.term.TermRow.{TermRow}
+use Rattle.alta_loading.proofs.RowOf.{term_at}
 use Rattle.alta_loading.proofs.near.order_at.Goals as goal
 
 pub returns-then-place-terms : goal.returns-then-place-terms
-returns-then-place-terms c = c.cmp.ensures ∙ sym (ap (order_to c.args.term.now) c.term.ensures)
+returns-then-place-terms c =
+    c.cmp.ensures ∙ sym (ap (order_to c.args.term.now) (term_at c.at-cursor.result c.args.level.now c.args.place c.term.result.now c.at-cursor.ensures.tables c.at-cursor.ensures.row c.term.ensures))
 
 pub returns-else-place-terms : goal.returns-else-place-terms
 returns-else-place-terms c =
