@@ -10,11 +10,11 @@ use Rattle.std.proofs.lemmas.List.Kept.{AllPairs-filter}
 use Rattle.alta_compile.specs.Space.{Placed}
 use Rattle.alta_compile.specs.View.{tree}
 use Rattle.alta_machine.specs.declared.document.Document.{Document}
-use Rattle.alta_search.specs.Answers.{IsPage, coming}
+use Rattle.alta_search.specs.Answers.{IsPage, coming, first_end}
 use Rattle.alta_machine.specs.Searching.{told}
 use Rattle.alta_machine.specs.OpenAnswers.{OpenAnswers, is_taken, fetched, first_free, least_free, left_of, number_of, with_opened, with_fetched, without_cursor}
-use Rattle.alta_search.specs.Open.{AreLeft, AreNumbers, AreOpen, IsFetch, IsFetched, IsOpen, IsPageOf, cursor_number, work_of}
-use Rattle.alta_search.specs.Plans.{lists, locations}
+use Rattle.alta_search.specs.Open.{AreLazySteps, AreLeft, AreNumbers, AreOpen, IsFetch, IsFetched, IsOpen, IsPageOf, cursor_number, work_of}
+use Rattle.alta_search.specs.Plans.{lists, locations, locations_below}
 use Rattle.alta_search.specs.Told.{answer_of}
 use Rattle.alta_search.specs.View.{CursorView, Shows}
 use Rattle.alta_search.specs.declared.cursors.OpenCursor.{OpenCursor}
@@ -272,6 +272,14 @@ page_documents old new count page before after left plan snapshot is h =
         answers = ap (λ q. map answer_of (coming h.space (tree q) new.snapshot new.from)) plan ∙ ap (λ s. map answer_of (coming h.space t s new.from)) snapshot ∙ dropped;
       },
     )
+
+-- a page over each space that the snapshot shows looks no further than it has to
+pub page_lazy : (old new : CursorView) (count : ℕ) (page : Page) (before after : ℕ)
+    → ((space : List Placed) → Shows space old.snapshot → IsPage space (tree old.plan) old.snapshot old.from new.from count page before after)
+    → AreLazySteps count old page before after
+page_lazy old new count page before after is space shows found some =
+    let p = is space shows in let cuts = old.snapshot.cuts in
+    subst (λ left. after ≤ before + lists cuts + locations_below (first_end left) cuts) p.left (p.lazy found some)
 
 -- ---- the calls
 

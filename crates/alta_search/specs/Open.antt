@@ -1,12 +1,14 @@
 -- Open cursors as they stand in memory, in words of documents.
 use Rattle.std.specs.Prelude.{◌≡◌, ◌≢◌, ◌↔◌, ℕ, ◌+◌, ◌<◌, ◌≤◌, ◌==◌, IsTrue, if◌then◌else◌, List, [], ◌∷◌, map, take, drop, length, All, AllPairs, Option, Some, None, IsNone}
+use Rattle.alta_compile.specs.Space.{Placed}
 use Rattle.alta_compile.specs.View.{tree}
 use Rattle.alta_machine.specs.declared.document.Document.{Document}
 use Rattle.alta_search.specs.Documents.{AreToCome}
 use Rattle.alta_machine.specs.Searching.{told}
-use Rattle.alta_search.specs.Plans.{lists, locations}
+use Rattle.alta_search.specs.Answers.{coming, first_end}
+use Rattle.alta_search.specs.Plans.{IsOneFound, lists, locations, locations_below}
 use Rattle.alta_search.specs.Readers.{Each}
-use Rattle.alta_search.specs.View.{CursorView}
+use Rattle.alta_search.specs.View.{CursorView, Shows}
 use Rattle.alta_search.specs.declared.cursors.OpenCursor.{OpenCursor}
 use Rattle.alta_machine.specs.declared.cursors.TheConstants.{CURSORS}
 use Rattle.alta_search.specs.declared.page.Page.{Page}
@@ -36,6 +38,17 @@ AreOpen cursors answers = Each IsOpen cursors answers
 pub record IsPageOf (count : ℕ) (left : List Document) (page : Page) : Type 0 where
   pub answers : page.answers ≡ map told (take count left)
   pub more : IsTrue page.more ↔ (0 < length (drop count left))
+
+-- the end of the first answer that a page of so many leaves behind it
+abbrev pub end_left : List Placed → ℕ → CursorView → ℕ
+end_left space count cursor = first_end (drop count (coming space (tree cursor.plan) cursor.snapshot cursor.from))
+
+-- Of one Found, a page of so many answers at most behind which more are left takes at most a step a list, and one a location below
+-- the end of the first that is left.
+abbrev pub AreLazySteps : ℕ → CursorView → Page → ℕ → ℕ → Type 0
+AreLazySteps count cursor page before after =
+    (space : List Placed) → Shows space cursor.snapshot → IsOneFound (tree cursor.plan) → IsTrue page.more
+    → after ≤ before + lists cursor.snapshot.cuts + locations_below (end_left space count cursor) cursor.snapshot.cuts
 
 -- there is a page of the answers still to come exactly where a cursor has the number
 abbrev pub IsFetched : ℕ → Option (List Document) → Option Page → Type 0

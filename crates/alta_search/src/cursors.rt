@@ -3,7 +3,7 @@ ghost use Rattle.std.specs.Prelude.{◌≡◌, ◌≢◌, ◌↔◌, ℕ, ◌+�
 ghost use Rattle.std.specs.List.{list_any};
 ghost use Rattle.alta_machine.specs.declared.document.Document.{Document};
 ghost use Rattle.alta_machine.specs.OpenAnswers.{OpenAnswers, first_free, least_free, left_of, with_opened, without_cursor};
-ghost use Rattle.alta_search.specs.Open.{AreLeft, AreOpen, IsPageOf, IsFetch, cursor_number, work_of};
+ghost use Rattle.alta_search.specs.Open.{AreLeft, AreOpen, AreLazySteps, IsPageOf, IsFetch, cursor_number, work_of};
 ghost use Rattle.alta_search.specs.Plans.{lists, locations};
 ghost use Rattle.alta_search.specs.Walked.{AreSearchSteps};
 
@@ -83,7 +83,8 @@ impl Cursors {
 
     /// The next `count` answers at most of the cursor with this number, and whether more are left; they are taken off.
     /// `None` exactly where no open cursor has the number. It adds at most as many steps as the lists of that cursor's tests
-    /// are and have locations. Fails for want of memory alone, and all cursors then stand where they stood.
+    /// are and have locations; of one Found, where more are left, at most the lists and the locations below the end of the
+    /// first answer that is left. Fails for want of memory alone, and all cursors then stand where they stood.
     pub fn fetch<L: Ledger>(
         &mut self,
         alloc: Global,
@@ -96,6 +97,7 @@ impl Cursors {
         ensures numbers { map cursor_number self.new ≡ map cursor_number self.old }
         ensures most { steps.new ≤ steps.old + work_of number self.old }
         ensures steps { All (λ c. c.number ≡ number → AreSearchSteps c.cursor.found c.cursor.snapshot steps.old steps.new) self.old }
+        ensures lazy { IfOk result (λ page. IfSome page (λ p. All (λ c. c.number ≡ number → AreLazySteps count c.cursor p steps.old steps.new) self.old)) }
         ensures kept { OnErr result (self.new ≡ self.old) }
     {
         fetch_from(&mut self.cursors, alloc, number, count, steps)
@@ -161,6 +163,7 @@ fn page_of<L: Ledger>(
     ensures page { IfOk result (λ page. (left : List Document) → AreLeft cursor.old left → IsPageOf count left page × AreLeft cursor.new (drop count left)) }
     ensures most { steps.new ≤ steps.old + locations cursor.old.snapshot.cuts + lists cursor.old.snapshot.cuts }
     ensures steps { AreSearchSteps cursor.old.found cursor.old.snapshot steps.old steps.new }
+    ensures lazy { IfOk result (λ page. AreLazySteps count cursor.old page steps.old steps.new) }
     ensures kept { OnErr result (cursor.new ≡ cursor.old) }
 {
     cursor.fetch(alloc, count, steps)
@@ -180,6 +183,7 @@ fn fetch_from<L: Ledger>(
     ensures numbers { map cursor_number cursors.new ≡ map cursor_number cursors.old }
     ensures most { steps.new ≤ steps.old + work_of number cursors.old }
     ensures steps { All (λ c. c.number ≡ number → AreSearchSteps c.cursor.found c.cursor.snapshot steps.old steps.new) cursors.old }
+    ensures lazy { IfOk result (λ page. IfSome page (λ p. All (λ c. c.number ≡ number → AreLazySteps count c.cursor p steps.old steps.new) cursors.old)) }
     ensures kept { OnErr result (cursors.new ≡ cursors.old) }
 {
     match place_of(cursors, number) {

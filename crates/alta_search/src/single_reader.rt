@@ -34,6 +34,7 @@ impl<'a> Reader for SingleReader<'a> {
 
     ghost cost = { single_cost };
 
+    #[inline(always)]
     fn loc(&self) -> Loc {
         match self {
             SingleReader::Coded(reader) => reader.loc(),
@@ -42,6 +43,7 @@ impl<'a> Reader for SingleReader<'a> {
         }
     }
 
+    #[inline(always)]
     fn next<L: Ledger>(&mut self, steps: &mut Steps<L>) {
         match self {
             SingleReader::Coded(reader) => reader.next(steps),
@@ -50,6 +52,7 @@ impl<'a> Reader for SingleReader<'a> {
         }
     }
 
+    #[inline(always)]
     fn seek<L: Ledger>(&mut self, to: Loc, steps: &mut Steps<L>) {
         match self {
             SingleReader::Coded(reader) => reader.seek(to, steps),

@@ -44,15 +44,18 @@ impl<'a> Reader for TermReader<'a> {
 
     ghost cost = { term_cost };
 
+    #[inline(always)]
     fn loc(&self) -> Loc {
         self.at
     }
 
+    #[inline(always)]
     fn next<L: Ledger>(&mut self, steps: &mut Steps<L>) {
         self.chain.next(steps);
         self.at = self.chain.loc();
     }
 
+    #[inline(always)]
     fn seek<L: Ledger>(&mut self, to: Loc, steps: &mut Steps<L>) {
         self.chain.seek(to, steps);
         self.at = self.chain.loc();

@@ -1,6 +1,6 @@
 use Rattle.std.proofs.Common.{refl, sym, arith}
 use Rattle.std.proofs.Math.Seq.{map-set_same}
-use Rattle.alta_search.specs.Open.{cursor_number}
+use Rattle.alta_search.specs.Open.{AreLazySteps, cursor_number}
 use Rattle.alta_search.specs.Walked.{AreSearchSteps}
 use Rattle.alta_search.specs.declared.cursors.OpenCursor.{OpenCursor}
 use Rattle.alta_search.proofs.CursorAnswers.{IsAt, all_at, any_at, any_none, fetch_none, fetch_some, work_at}
@@ -55,3 +55,10 @@ returns-in_ok-page-in-Some-clause-steps g c =
     let held = c.args.cursors.now in let d = c.index-cursors-place.result in
     let at : IsAt c.args.number held c.in-Some.place d = record { within = c.in-Some.ensures.inside; number = c.in-Some.ensures.there d } in
     all_at c.args.number held c.in-Some.place d (λ (o : OpenCursor). AreSearchSteps o.cursor.found o.cursor.snapshot c.args.steps.now c.page_of.new.steps) c.requires at c.page_of.ensures.steps
+
+pub returns-in_ok-page-in-Some-clause-lazy : goal.returns-in_ok-page-in-Some-clause-lazy
+returns-in_ok-page-in-Some-clause-lazy g c =
+    let held = c.args.cursors.now in let d = c.index-cursors-place.result in
+    let at : IsAt c.args.number held c.in-Some.place d = record { within = c.in-Some.ensures.inside; number = c.in-Some.ensures.there d } in
+    all_at c.args.number held c.in-Some.place d
+    (λ (o : OpenCursor). AreLazySteps c.args.count o.cursor c.in_ok-page-in-Some.page c.args.steps.now c.page_of.new.steps) c.requires at c.in_ok-page-in-Some.ensures.lazy
