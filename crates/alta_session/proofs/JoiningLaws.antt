@@ -100,7 +100,7 @@ works_searching tells state disk disk_now store reading result search not_full b
 
 -- it failed
 pub works_failed : {D : Type 0} (tells : Type 0) (state : D → DiskState) (disk disk_now : D) (store : Store) (reading : Reading) (fault : StoreFault) → ((s : State) (place : ℕ) → Knows store s → tells → fault ≡ Damaged place → IsBrokenAmong (joins_where store (task_in (started_at s) reading)) (state disk).content place)
-    → ((s : State) (o : Opened) (need gap : ℕ) → Knows store s → tells → IsOpened o (state disk).content → fault ≡ Full need gap → FindsNoPlace (state disk).limit (task_in (started_at s) reading) o need gap) → (IdlesIn store reading → ⊥)
+    → ((s : State) (o : Opened) (need gap : ℕ) → Knows store s → tells → IsOpened o (state disk).content → fault ≡ Full need gap → FindsNoPlace (state disk).limit (state disk).content store (task_in (started_at s) reading) o need gap) → (IdlesIn store reading → ⊥)
     → Works tells state disk disk_now store reading (Err fault)
 works_failed tells state disk disk_now store reading fault broken lacks busy = record {
   joins = λ other s place knows tell is. let same : fault ≡ Damaged place = cc in broken s place knows tell same;
@@ -114,5 +114,6 @@ pub joins_task : (store : Store) (image : List ℕ) (place : ℕ) (asked : Optio
 joins_task store image place asked task is broken = subst (λ (t : Option Task). IsBrokenAmong (joins_where store t) image place) (sym is) broken
 
 -- the want of the task that is asked
-pub lacks_task : (limit : ℕ) (o : Opened) (need gap : ℕ) (asked : Option Task) (task : Task) → asked ≡ Some task → Becomes limit task o (Err (record { need = need; gap = gap })) → FindsNoPlace limit asked o need gap
-lacks_task limit o need gap asked task is lacks = subst (λ (t : Option Task). FindsNoPlace limit t o need gap) (sym is) lacks
+pub lacks_task : {image : List ℕ} {store : Store} (limit : ℕ) (o : Opened) (need gap : ℕ) (asked : Option Task) (task : Task) → asked ≡ Some task → Becomes limit image store.job task o (Err (record { need = need; gap = gap }))
+    → FindsNoPlace limit image store asked o need gap
+lacks_task {image} {store} limit o need gap asked task is lacks = subst (λ (t : Option Task). FindsNoPlace limit image store t o need gap) (sym is) lacks

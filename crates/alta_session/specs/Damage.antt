@@ -31,14 +31,14 @@ ReadsFirst P (line ∷ lines) = P (reading_of line)
 abbrev pub FirstFindsDamage : List ℕ → List (List ℕ) → ℕ → Type 0
 FirstFindsDamage image lines place = ReadsFirst (λ (reading : Reading). FindsDamage image reading place) lines
 
--- A line that is read so wants a place, over a store that goes on with what the image is opened as: its task's work on that needs so many
--- bytes, where the greatest gap has that many.
+-- A line that is read so wants a place, over a store that goes on with what the image is opened as: its task's work on that, and on the
+-- lists that stand there, needs so many bytes, where the greatest gap has that many.
 pub record WantsPlace (limit : ℕ) (image : List ℕ) (reading : Reading) (need gap : ℕ) : Type 0 where
   pub store : Store
   pub holds : KeepsOpened store image
   pub state : State
   pub knows : Knows store state
-  pub lacks : FindsNoPlace limit (task_in (started_at state) reading) holds.opened need gap
+  pub lacks : FindsNoPlace limit image store (task_in (started_at state) reading) holds.opened need gap
 
 -- the first of these lines wants one
 abbrev pub FirstWantsPlace : ℕ → List ℕ → List (List ℕ) → ℕ → ℕ → Type 0

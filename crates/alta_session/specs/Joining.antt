@@ -22,10 +22,11 @@ abbrev pub joins_where : Store → Option Task → List Tables
 joins_where store None = []
 joins_where store (Some task) = joined_by store task
 
--- the work of a task on what is opened needs so many bytes, and the greatest gap has that many
-abbrev pub FindsNoPlace : ℕ → Option Task → Opened → ℕ → ℕ → Type 0
-FindsNoPlace limit None opened need gap = ⊥
-FindsNoPlace limit (Some task) opened need gap = Becomes limit task opened (Err (record { need = need; gap = gap }))
+-- the work of a task on an image that is opened so, by a store, needs so many bytes, and the greatest gap has that many
+abbrev pub FindsNoPlace : ℕ → List ℕ → Store → Option Task → Opened → ℕ → ℕ → Type 0
+FindsNoPlace limit image store None opened need gap = ⊥
+FindsNoPlace limit image store (Some task) opened need gap =
+    Becomes limit image store.job task opened (Err (record { need = need; gap = gap }))
 
 -- a flush of an empty journal, a merge of one level at most without deleted ends and entries, or a step over fewer than two levels
 abbrev pub IsIdle : Store → Command → Type 0
@@ -55,6 +56,6 @@ pub record Works {D : Type 0} (tells : Type 0) (state : D → DiskState) (disk d
   pub joins : (SearchesIn reading → ⊥) → (s : State) (place : ℕ) → Knows store s → tells → result ≡ Err (Damaged place)
       → IsBrokenAmong (joins_where store (task_in (started_at s) reading)) (state disk).content place
   pub lacks : (s : State) (o : Opened) (need gap : ℕ) → Knows store s → tells → IsOpened o (state disk).content → result ≡ Err (Full need gap)
-      → FindsNoPlace (state disk).limit (task_in (started_at s) reading) o need gap
+      → FindsNoPlace (state disk).limit (state disk).content store (task_in (started_at s) reading) o need gap
   pub idle : IdlesIn store reading → (disk_now ≡ disk) × IfErr result (λ e. e ≡ Memory)
   pub replies : ¬ (ReadsIn reading) → (m : Machine) → Knows store m.state → IfOk result (λ reply. reply ≡ (answered m reading).1)

@@ -1,6 +1,6 @@
 -- Calls that change a store, one behind the other.
 use Rattle.std.proofs.Common.{◌≡◌, ◌⊎◌, inl, inr, ⊎_elim, ℕ, ◌+◌, ◌≤◌, Bool, true, false, cond, List, [], refl, sym, ◌∙◌, ap, subst, arith, Result, Ok, Err}
-use Rattle.std.specs.Prelude.{◌||◌, not, Some}
+use Rattle.std.specs.Prelude.{◌||◌, not, Option, Some}
 use Rattle.std.specs.List.{sum_by}
 use Rattle.alta_codec.specs.Faults.{Rose}
 use Rattle.alta_disk.specs.Calls.{Costs}
@@ -18,6 +18,7 @@ use Rattle.alta_joins.specs.Contents.{data_size}
 use Rattle.alta_joins.specs.Damages.{IsFirstDamage}
 use Rattle.alta_journal.specs.Entry.{KeepsRules}
 use Rattle.alta_journal.specs.declared.entry.Entry.{Entry}
+use Rattle.alta_merge.specs.Merging.{Merging}
 use Rattle.alta_machine.specs.declared.document.State.{State}
 use Rattle.alta_store.specs.Agreement.{Agrees, Has, Keeps, MaySpeakOf, MaySpeakOfEither}
 use Rattle.alta_store.specs.Answers.{IsOutside}
@@ -403,10 +404,10 @@ enter_work entry limit held keeps = by_case (needs_raise held.view.version entry
     by_case false false is = ap (λ (r : Result Holding Full). r >>= λ then. Ok (entered then entry)) (sym (ap (by_entries limit held) (some_before entry keeps held.view.entries is)))
 
 -- what is opened so has the entry then
-enter_turns : (entry : Entry) (limit : ℕ) (o : Opened) (roomy outcome : Result Opened Full) → GetsRoom limit entry o roomy → goes_on (λ limit o outcome. outcome ≡ Ok (with_entry o entry)) limit roomy outcome
-    → BecomesEntered limit entry o outcome
-enter_turns entry limit o (Ok q) outcome room goes = (Ok q, room, goes)
-enter_turns entry limit o (Err full) outcome room goes = (Err full, room, goes)
+enter_turns : (image : List ℕ) (going : Option Merging) (entry : Entry) (limit : ℕ) (o : Opened) (roomy outcome : Result Opened Full) → GetsRoom limit image going entry o roomy → goes_on (λ limit o outcome. outcome ≡ Ok (with_entry o entry)) limit roomy outcome
+    → BecomesEntered limit image going entry o outcome
+enter_turns image going entry limit o (Ok q) outcome room goes = (Ok q, room, goes)
+enter_turns image going entry limit o (Err full) outcome room goes = (Err full, room, goes)
 
 -- an entry that is entered finds its place
 pub enters_finds : (entry : Entry) (limit : ℕ) (o : Opened) (full : Full) → ◌≡◌ {A = Result Opened Full} (Err full) (Ok (with_entry o entry)) → ⊥
@@ -414,11 +415,11 @@ enters_finds entry limit o full e = absurd cc
 
 pub obeys_entry : {T : Type 0} (tells : Type 0) (entry : Entry) → KeepsRules entry → (step : State → State) (a b : DiskState) (store later : Store) (result : Result T StoreFault)
     → Changes tells (λ limit held. cond (lacks_room held.view.version held.view.entries entry) (written limit held) (Ok held) >>= λ then. Ok (entered then entry))
-    (through (λ limit o outcome. GetsRoom limit entry o outcome) (λ limit o outcome. outcome ≡ Ok (with_entry o entry))) step NoRefusal (1 + 0) (joined_by store (enters entry)) a b store later result
+    (through (λ limit o outcome. GetsRoom limit a.content store.job entry o outcome) (λ limit o outcome. outcome ≡ Ok (with_entry o entry))) step NoRefusal (1 + 0) (joined_by store (enters entry)) a b store later result
     → Obeys tells (enters entry) step NoRefusal a b store later result
 obeys_entry tells entry keeps step a b store later result c =
     changes_as tells _ _ _ _ step NoRefusal NoRefusal 1 (joined_by store (enters entry)) a b store later result (λ held told has. enter_work entry a.limit held keeps)
-    (λ o outcome told opened turned. enter_turns entry a.limit o turned.0 outcome turned.1 turned.2)
+    (λ o outcome told opened turned. enter_turns a.content store.job entry a.limit o turned.0 outcome turned.1 turned.2)
     (λ e refused. refused) c
 
 -- by an entry that is the same

@@ -1,5 +1,5 @@
 -- Flush and step: the newest documents become a level, and a join may come in place of the two oldest.
-use Rattle.std.proofs.Common.{◌≡◌, ◌⊎◌, inl, inr, ⊎_elim, ℕ, ◌+◌, ◌<◌, ◌≤◌, Bool, true, false, cond, Vec, Global, List, [], ◌∷◌, length, take, sym, ◌∙◌, ap, ap₂, subst, arith, Result, Ok}
+use Rattle.std.proofs.Common.{◌≡◌, ◌⊎◌, inl, inr, ⊎_elim, ℕ, ◌+◌, ◌<◌, ◌≤◌, Bool, true, false, cond, Vec, Global, List, [], ◌∷◌, length, take, refl, sym, ◌∙◌, ap, ap₂, subst, arith, Result, Ok}
 use Rattle.std.specs.Prelude.{◌==◌, ◌&&◌, nat_le, OnOk, Option, None}
 use Rattle.std.specs.List.{sum_by}
 use Rattle.std.proofs.lemmas.List.{length-map}
@@ -25,28 +25,29 @@ use Rattle.alta_rewrite.specs.Rewrites.{HaveRows, Replaces, levels_to_come, no_c
 use Rattle.alta_rewrite.specs.declared.levels.NextLevels.{NextLevels}
 use Rattle.alta_rewrite.proofs.JoinedLaws.{flush_is, room_is, step_is}
 use Rattle.alta_store.specs.Agreement.{Agrees, Has, IsJobIn, levels_of}
-use Rattle.alta_store.specs.Calls.{Becomes, Changes, Flushes, IsRewrite, JoinsOldest, NoRefusal, Obeys, Writes, flush_joins, is_many, step_joins, unless_read}
+use Rattle.alta_store.specs.Calls.{Becomes, Changes, Flushes, HaveLists, IsRewrite, JoinsOldest, NoRefusal, Obeys, Writes, ends_join, flush_joins, is_many, step_joins, unless_read}
 use Rattle.alta_store.specs.Putting.{IsDrained, IsGivenBy, MayPut, Puts}
 use Rattle.alta_store.specs.declared.fault.StoreFault.{StoreFault}
 use Rattle.alta_store.specs.declared.store.Store.{Store}
 use Rattle.alta_store.proofs.Agreements.{kept}
 use Rattle.alta_store.proofs.Idling.{and_false}
-use Rattle.alta_store.proofs.Joining.{IsJoinOf, job_held, join_held, oldest_held, switched_job}
+use Rattle.alta_store.proofs.Joining.{IsJoinOf, ends_as, job_held, join_held, oldest_held, switched_job}
 use Rattle.alta_store.proofs.Putting.{have_rows}
 use Rattle.alta_store.proofs.Room.{le_true}
 use Rattle.alta_store.proofs.Rows.{live_newest}
-use Rattle.alta_store.proofs.Tasks.{HasNewest, given_stay, held_given, newest_held, newest_there, stay_may, two_held, two_kind, two_may}
+use Rattle.alta_store.proofs.Tasks.{HasNewest, given_stay, held_given, newest_held, newest_there, none_read, stay_may, two_held, two_kind, two_may, two_read}
 use Rattle.alta_store.proofs.Working.{Switches, agrees_read, changes_put, changes_read}
 use Rattle.alta_table.specs.Tables.{Tables}
 use Rattle.alta_content.specs.Joining.{terms_in}
 
 -- a task that reads these levels
-abbrev pub ObeysOver : {T : Type 0} → Type 0 → Task → List Tables → DiskState → DiskState → Store → Store → Result T StoreFault → Type 0
-ObeysOver tells task joins a b store later result = Changes tells (λ limit held. worked limit held task) (λ limit o outcome. Becomes limit task o outcome) (λ s. s) NoRefusal 1 joins a b store later result
+abbrev pub ObeysOver : {T : Type 0} → Type 0 → Task → List ℕ → List Tables → DiskState → DiskState → Store → Store → Result T StoreFault → Type 0
+ObeysOver tells task image joins a b store later result =
+    Changes tells (λ limit held. worked limit held task) (λ limit o outcome. Becomes limit image store.job task o outcome) (λ s. s) NoRefusal 1 joins a b store later result
 
 -- a switch of the root that reads these levels
 abbrev pub WritesOver : {T : Type 0} → Type 0 → List Tables → DiskState → DiskState → Store → Store → Result T StoreFault → Type 0
-WritesOver tells joins a b store later result = Changes tells written (λ limit o outcome. IsRewrite limit Flushes o outcome) (λ s. s) NoRefusal 1 joins a b store later result
+WritesOver tells joins a b store later result = Changes tells written (λ limit o outcome. IsRewrite limit a.content (Flushes store.job) o outcome) (λ s. s) NoRefusal 1 joins a b store later result
 
 -- the two oldest levels, unless they were read as a join began
 abbrev pub two_of : Store → List Tables
@@ -103,7 +104,7 @@ module _ (tells : Type 0) (a : DiskState) (lawful : IsLawful tells a) (store : S
     stay_replaces : (view : View) → newest ≡ newest_content view → Replaces levels 0 no_content (newest_content view)
     stay_replaces view same = record { stay_from_is = replaces.stay_from_is; oldest_is = replaces.oldest_is; newest_is = replaces.newest_is ∙ same }
 
-    stay_kind : (told : tells) (o : Opened) → IsOpened o a.content → (there : List Level) → HaveRows o there → Flushes (view_of o there) levels
+    stay_kind : (told : tells) (o : Opened) → IsOpened o a.content → (there : List Level) → HaveRows o there → Flushes store.job (view_of o there) levels
     stay_kind told o is there have =
         inl (many_there told o is there have ∙ few_by store newest few, stay_replaces (view_of o there) (newest_there tells a lawful store agrees newest has_newest told o is there have))
 
@@ -121,8 +122,10 @@ module _ (tells : Type 0) (a : DiskState) (lawful : IsLawful tells a) (store : S
     pub flush_stays : (b : DiskState) → IsLawful tells b → (later : Store) → (u : Result (Unit {0}) StoreFault) → OnOk u (later.job ≡ now.job) → Puts tells levels a b store later u → Writes tells a b store later u
     flush_stays b lawful_b later u job puts =
         subst (λ (joins : List Tables). WritesOver tells joins a b store later u) (sym (flush_reads tells a store agrees newest has_newest false (few_by store newest few)))
-        (changes_put tells a b lawful lawful_b store now later levels stays written (λ limit o outcome. IsRewrite limit Flushes o outcome) (λ held then spaced well e. written_well a.limit held then spaced well e) Flushes (λ o outcome rewrite. rewrite)
-        (λ view levels kind. inl kind) (λ told o is. let given = stays.given o told is in stay_kind told o is given.0 given.1) stay_switches u job puts)
+        (changes_put tells a b lawful lawful_b store now later levels stays written (λ limit o outcome. IsRewrite limit a.content (Flushes store.job) o outcome) (λ held then spaced well e. written_well a.limit held then spaced well e)
+        a.content (λ told. refl) (Flushes store.job) (λ told o is outcome rewrite. rewrite) (λ view levels kind. (store.job, inl kind))
+        (λ told o is. let given = stays.given o told is in stay_kind told o is given.0 given.1) (λ told o is. none_read tells a lawful store agrees a.content o (stays.given o told is).0 levels replaces.stay_from_is)
+        stay_switches u job puts)
 
 -- ---- a join in place of the two oldest
 
@@ -161,16 +164,20 @@ module _ (tells : Type 0) (a b c : DiskState) (lawful_a : IsLawful tells a) (law
     goes = λ then e. joined_goes held then (levels_to_come levels held.view) e;
   }
 
+  joined_kind : (told : tells) (o : Opened) (is : IsOpened o b.content) → JoinsOldest store.job (view_of o (joined.given o told is).0) levels
+  joined_kind told o is = two_kind tells b lawful_b store agrees_there now drained no_job merging join.joining oldest newest oldest_is has_newest part levels replaces most join.which told o is
+
+  joined_read : (told : tells) (o : Opened) (is : IsOpened o b.content) → HaveLists a.content o (joined.given o told is).0 levels
+  joined_read told o is = two_read tells b lawful_b store agrees_there now drained no_job merging join.joining oldest newest oldest_is has_newest part levels replaces most a.content (join.over told) told o is
+
   -- a flush where there are 16 levels
   pub flush_joined : is_many_by store newest ≡ true → (later : Store) → (u : Result (Unit {0}) StoreFault) → OnOk u (later.job ≡ now.job) → Puts tells levels b c store later u → Writes tells a c store later u
   flush_joined many later u job puts =
       subst (λ (joins : List Tables). WritesOver tells joins a c store later u) (sym (flush_reads tells a store agrees newest has_newest true many))
-      (changes_read tells written (λ limit o outcome. IsRewrite limit Flushes o outcome) 1 (two_of store) a b c lawful_a lawful_b store later u agrees reads whole
-      (changes_put tells b c lawful_b lawful_c store now later levels joined written (λ limit o outcome. IsRewrite limit Flushes o outcome) (λ held then spaced well e. written_well b.limit held then spaced well e) Flushes (λ o outcome rewrite. rewrite)
-      (λ view levels kind. inl kind)
-      (λ told o is.
-      let given = joined.given o told is in
-      inr (many_there tells b lawful_b store agrees_there newest has_newest told o is given.0 given.1 ∙ many, two_kind tells b lawful_b store agrees_there now drained no_job merging join.joining oldest newest oldest_is has_newest part levels replaces most told o is))
+      (changes_read tells written (λ limit o outcome. IsRewrite limit a.content (Flushes store.job) o outcome) 1 (two_of store) a b c lawful_a lawful_b store later u agrees reads whole
+      (changes_put tells b c lawful_b lawful_c store now later levels joined written (λ limit o outcome. IsRewrite limit a.content (Flushes store.job) o outcome) (λ held then spaced well e. written_well b.limit held then spaced well e)
+      a.content reads.content (Flushes store.job) (λ told o is outcome rewrite. rewrite) (λ view levels kind. (store.job, inl kind))
+      (λ told o is. let given = joined.given o told is in inr (many_there tells b lawful_b store agrees_there newest has_newest told o is given.0 given.1 ∙ many, joined_kind told o is)) joined_read
       (flush_switches many) u job puts))
 
   -- no term is left
@@ -191,9 +198,9 @@ module _ (tells : Type 0) (a b c : DiskState) (lawful_a : IsLawful tells a) (law
   pub step_joined : (n : ℕ) → HasEnded n → 2 ≤ length (levels_of store) → (later : Store) → (u : Result (Unit {0}) StoreFault) → OnOk u (later.job ≡ now.job) → Puts tells levels b c store later u
       → Obeys tells (steps n) (λ s. s) NoRefusal a c store later u
   step_joined n ended two later u job puts =
-      subst (λ (joins : List Tables). ObeysOver tells (steps n) joins a c store later u) (sym (step_reads store two))
-      (changes_read tells (λ limit held. worked limit held (steps n)) (λ limit o outcome. Becomes limit (steps n) o outcome) 1 (two_of store) a b c lawful_a lawful_b store later u agrees reads whole
-      (changes_put tells b c lawful_b lawful_c store now later levels joined (λ limit held. worked limit held (steps n)) (λ limit o outcome. Becomes limit (steps n) o outcome)
-      (λ held then spaced well e. work_well b.limit held then (steps n) spaced well e) JoinsOldest (λ o outcome rewrite. inr rewrite) (λ view levels kind. inr (inl kind))
-      (λ told o is. two_kind tells b lawful_b store agrees_there now drained no_job merging join.joining oldest newest oldest_is has_newest part levels replaces most told o is)
-      (step_switches n ended) u job puts))
+      subst (λ (joins : List Tables). ObeysOver tells (steps n) a.content joins a c store later u) (sym (step_reads store two))
+      (changes_read tells (λ limit held. worked limit held (steps n)) (λ limit o outcome. Becomes limit a.content store.job (steps n) o outcome) 1 (two_of store) a b c lawful_a lawful_b store later u agrees reads whole
+      (changes_put tells b c lawful_b lawful_c store now later levels joined (λ limit held. worked limit held (steps n)) (λ limit o outcome. Becomes limit a.content store.job (steps n) o outcome)
+      (λ held then spaced well e. work_well b.limit held then (steps n) spaced well e) a.content reads.content (JoinsOldest store.job)
+      (λ told o is outcome rewrite. inr (ap (ends_join n store.job) (sym (kept store b.content (agrees_there.content told) o is).levels) ∙ ends_as tells a.content store merging join n true ended, rewrite))
+      (λ view levels kind. (store.job, inr (inl kind))) joined_kind joined_read (step_switches n ended) u job puts))

@@ -22,7 +22,7 @@ use Rattle.alta_journal.specs.declared.entry.Entry.{Entry}
 use Rattle.alta_memlevel.specs.Added.{Added}
 use Rattle.alta_merge.specs.Merging.{Merging}
 use Rattle.alta_store.specs.Agreement.{Agrees, Has, HasNoEntry, IsJobIn, Keeps, MayGoOn, levels_of}
-use Rattle.alta_store.specs.Calls.{Changes, GetsRoom, MakesRoom, NoRefusal, Obeys, Writes, flush_joins, has_live, is_one, joined_by, lacks_room, merge_joins, needs_room, step_joins, unless_read}
+use Rattle.alta_store.specs.Calls.{Changes, GetsRoom, MakesRoom, NoRefusal, Obeys, Writes, ends_join, flush_joins, has_live, is_one, joined_by, lacks_room, merge_joins, needs_room, step_joins, terms_by, unless_read}
 use Rattle.alta_store.specs.declared.fault.StoreFault.{StoreFault}
 use Rattle.alta_store.specs.declared.store.Store.{Store}
 use Rattle.alta_store.proofs.Agreements.{kept}
@@ -117,12 +117,20 @@ module _ (tells : Type 0) (a : DiskState) (lawful : IsLawful tells a) (store : S
       by_job (Some merging) is may None same = absurd same
       by_job (Some merging) is may (Some job) same = absurd (omega (arith, few, ap length may.oldest))
 
+  -- so none ends
+  none_ends : (n : ℕ) → length (levels_of store) < 2 → ends_join n store.job (levels_of store) ≡ false
+  none_ends n few = by_job store.job agrees.intact.joining
+    where
+      by_job : (job : Option Merging) → MayGoOn (levels_of store) (gone_of store.catalog) job → ends_join n job (levels_of store) ≡ false
+      by_job None may = ap (λ (b : Bool). b && nat_le (length (terms_by (take 2 (levels_of store)))) n) (le_false 2 (length (levels_of store)) few)
+      by_job (Some merging) may = absurd (omega (arith, few, ap length may.oldest))
+
   pub idle_step : (n : ℕ) → length (levels_of store) < 2 → (u : Unit {0}) → Obeys tells (steps n) (λ s. s) NoRefusal a a store store (Ok u)
   idle_step n few u =
       changes_idle tells _ _ 1 (step_joins store) a store u lawful agrees
       (λ told. ap (λ (b : Bool). cond b (unless_read store.job (take 2 (levels_of store))) []) (le_false 2 (length (levels_of store)) few))
       (λ held told has. ap (moved a.limit held n) (no_job few told held has))
-      (λ o told is. (inl refl, kept store a.content (agrees.content told) o is))
+      (λ o told is. let keeps = kept store a.content (agrees.content told) o is in (inl (ap (ends_join n store.job) (sym keeps.levels) ∙ none_ends n few, refl), keeps))
 
   -- ---- a switch of the root
 
@@ -160,4 +168,4 @@ module _ (tells : Type 0) (a : DiskState) (lawful : IsLawful tells a) (store : S
       Makes : List Tables → Type 0
       Makes joins =
           Changes tells (λ limit held. cond (lacks_room held.view.version held.view.entries entry) (written limit held) (Ok held))
-          (λ limit o outcome. GetsRoom limit entry o outcome) (λ s. s) NoRefusal 1 joins a b store later result
+          (λ limit o outcome. GetsRoom limit a.content store.job entry o outcome) (λ s. s) NoRefusal 1 joins a b store later result

@@ -1,10 +1,12 @@
 -- The join of a store's two oldest levels, and the job of what is held.
-use Rattle.std.proofs.Common.{◌≡◌, ◌⊎◌, inl, inr, ⊎_elim, ℕ, zero, suc, Vec, Global, List, [], ◌∷◌, length, map, take, refl, sym, ◌∙◌, ap, ap₂, subst, Result, Ok, Err}
-use Rattle.std.specs.Prelude.{Option, Some, None}
+use Rattle.std.proofs.Common.{◌≡◌, ◌⊎◌, inl, inr, ⊎_elim, ℕ, zero, suc, ◌+◌, ◌-◌, Bool, Vec, Global, List, [], ◌∷◌, ◌++◌, length, map, take, refl, sym, ◌∙◌, ap, ap₂, subst, arith, Result, Ok, Err}
+use Rattle.std.specs.Prelude.{◌&&◌, nat_le, Option, Some, None}
 use Rattle.std.specs.List.{All, sum_by}
-use Rattle.std.proofs.lemmas.List.{length-map}
+use Rattle.std.proofs.lemmas.List.{length-drop, length-map}
 use Rattle.alta_catalog.specs.Knowing.{gone_of}
 use Rattle.alta_codec.specs.Faults.{Rose}
+use Rattle.alta_content.specs.Lists.{terms_of as list_terms}
+use Rattle.alta_content.specs.TermList.{TermList}
 use Rattle.alta_content.specs.declared.content.Content.{Content}
 use Rattle.alta_disk.specs.Disk.{DiskState, IsLawful}
 use Rattle.alta_disk.specs.Calls.{Reads}
@@ -16,9 +18,11 @@ use Rattle.alta_meaning.specs.Standing.{StandsFor}
 use Rattle.alta_meaning.specs.Views.{View}
 use Rattle.alta_meaning.specs.Work.{Coming, Job, begun, gone, job_of, oldest_joined, whole_of}
 use Rattle.alta_meaning.specs.Working.{IsJoin, oldest_contents, switched}
+use Rattle.alta_level.specs.Segments.{rows_of}
 use Rattle.alta_meaning.proofs.KeptStates.{switched_is}
+use Rattle.alta_meaning.proofs.Tests.{by_test}
 use Rattle.alta_disk.specs.Answers.{IfDamaged}
-use Rattle.alta_joins.specs.Contents.{AreSegmentsOn, StandsOn, data_size}
+use Rattle.alta_joins.specs.Contents.{AreSegmentsOn, IsContentOf, StandsOn, data_size}
 use Rattle.alta_joins.specs.Damages.{FindsDamage, IsFirstDamage}
 use Rattle.alta_joins.specs.Jobs.{AreJoinedOn, IsBegun, IsJoining, IsMerging}
 use Rattle.alta_disk.specs.declared.fault.LoadFault.{LoadFault}
@@ -29,7 +33,7 @@ use Rattle.alta_merge.specs.Merging.{Merging}
 use Rattle.alta_machine.specs.declared.document.State.{State}
 use Rattle.alta_store.specs.Agreement.{Agrees, GoesOnOver, Has, IsJobIn, MayGoOn, levels_of}
 use Rattle.alta_store.specs.Answers.{of_load}
-use Rattle.alta_store.specs.Calls.{unless_read}
+use Rattle.alta_store.specs.Calls.{ends_join, terms_by, unless_read}
 use Rattle.alta_store.specs.Putting.{IsDrained, ReadsLevels}
 use Rattle.alta_store.specs.declared.fault.StoreFault.{StoreFault}
 use Rattle.alta_store.specs.declared.fault.StoreFault.TheVariants as faults
@@ -37,8 +41,10 @@ use Rattle.alta_store.specs.declared.store.Store.{Store}
 use Rattle.alta_store.proofs.Agreements.{kept}
 use Rattle.alta_store.proofs.GoingOn.{Begins, begins_as}
 use Rattle.alta_store.proofs.Holdings.{content_bytes, gone_held, has_of, levels_held}
+use Rattle.alta_store.proofs.Room.{le_false, le_true}
 use Rattle.alta_table.specs.Tables.{Tables}
-use Rattle.alta_content.specs.Joining.{joined_in}
+use Rattle.alta_table.specs.Terms.{terms_of}
+use Rattle.alta_content.specs.Joining.{in_order, joined_in, terms_in}
 use Rattle.alta_meaning.proofs.WellLaws.{one_job, no_job}
 
 -- ---- a join of a store's two oldest levels
@@ -133,9 +139,49 @@ module _ (tells : Type 0) (a : DiskState) (lawful : IsLawful tells a) (store : S
   pub oldest_held : (told : tells) (held : Holding) → Has store held a.content → oldest_joined held.job held.view ≡ merging.whole
   oldest_held told held has = let j = job_held told held has in oldest_whole held.job held.view j.0 j.1 ∙ sym j.2.whole
 
+-- ---- where a step ends the join
+
+-- the terms of two levels are those of their contents
+two_terms : (older newer : Tables) (c d : Content) → IsContentOf older c → IsContentOf newer d → terms_by (older ∷ newer ∷ []) ≡ terms_in (c ∷ d ∷ [])
+two_terms older newer c d first second = ap₂ (λ (xs ys : List (List ℕ)). in_order (xs ++ (ys ++ []))) (terms_are older c first) (terms_are newer d second)
+  where
+    row_terms : (lists : List TermList) → terms_of (rows_of lists) ≡ list_terms lists
+    row_terms [] = refl
+    row_terms (l ∷ ls) = ap (λ (ts : List (List ℕ)). l.term ∷ ts) (row_terms ls)
+
+    terms_are : (t : Tables) (c : Content) → IsContentOf t c → terms_of t.terms ≡ list_terms c.lists
+    terms_are t c is = ap (λ (x : Tables). terms_of x.terms) (sym is.tables) ∙ row_terms c.lists
+
+-- so many terms are left, where those before are merged
+terms_left : (all merged n : ℕ) → nat_le (all - merged) n ≡ nat_le all (merged + n)
+terms_left all merged n =
+    by_test (nat_le all (merged + n)) (λ yes. le_true (all - merged) n (grind (arith, yes)) ∙ sym yes) (λ no. le_false (all - merged) n (grind (arith, no)) ∙ sym no)
+
+-- what the terms of its contents tell of a step, the tables of its levels tell
+pub ends_as : (tells : Type 0) (image : List ℕ) (store : Store) (merging : Merging) → IsJoinOf tells image store merging → (n : ℕ) (b : Bool)
+    → ((j : Job) → IsMerging merging j → nat_le (length (terms_in (j.older ∷ j.newer ∷ []))) (j.merged + n) ≡ b) → ends_join n store.job (levels_of store) ≡ b
+ends_as tells image store merging join n b ends =
+    ⊎_elim
+    (λ (goes : store.job ≡ Some merging).
+    ap (λ (m : Option Merging). ends_join n m (levels_of store)) goes ∙ ap (λ (ts : List (List ℕ)). nat_le (length ts) n) join.joining.is.left
+    ∙ ap (λ (k : ℕ). nat_le k n) (length-drop j.merged all) ∙ terms_left (length all) j.merged n ∙ ends j join.joining.is)
+    (λ begins.
+    let same : n ≡ j.merged + n = omega (arith, begins.1.1) in
+    ap (λ (m : Option Merging). ends_join n m (levels_of store)) begins.0 ∙ ap (ends_join n None) join.joining.oldest
+    ∙ ap (λ (b : Bool). b && nat_le (length (terms_by (join.joining.older ∷ join.joining.newer ∷ []))) n) (le_true 2 (length (join.joining.older ∷ join.joining.newer ∷ join.joining.more)) (omega arith))
+    ∙ ap (λ (ts : List (List ℕ)). nat_le (length ts) n) (two_terms join.joining.older join.joining.newer j.older j.newer join.joining.contents.0 join.joining.contents.1)
+    ∙ ap (λ (k : ℕ). nat_le (length all) k) same ∙ ends j join.joining.is)
+    join.which
+  where
+    j : Job
+    j = join.joining.job
+
+    all : List (List ℕ)
+    all = terms_in (j.older ∷ j.newer ∷ [])
+
 -- ---- the levels that a join reads
 
-taken_segments : (n : ℕ) (image : List ℕ) (levels : List Tables) (contents : List Content) → AreSegmentsOn image levels contents → AreSegmentsOn image (take n levels) (take n contents)
+pub taken_segments : (n : ℕ) (image : List ℕ) (levels : List Tables) (contents : List Content) → AreSegmentsOn image levels contents → AreSegmentsOn image (take n levels) (take n contents)
 taken_segments zero image levels contents are = tt
 taken_segments (suc n) image [] [] are = tt
 taken_segments (suc n) image [] (c ∷ cs) are = absurd are

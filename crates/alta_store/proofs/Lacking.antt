@@ -91,7 +91,7 @@ places_short limit root oldest newest list full e =
 -- ---- the same of what is opened
 
 pub narrow_rewrite : (limit : ℕ) (kind : View → NextLevels → Type 0) → ((view : View) (levels : NextLevels) → kind view levels → IsWork view levels) → (o : Opened) (image : List ℕ) → IsOpened o image
-    → (need gap : ℕ) → IsRewrite limit kind o (Err (record { need = need; gap = gap })) → IsNarrow limit image need gap
+    → (need gap : ℕ) → IsRewrite limit image kind o (Err (record { need = need; gap = gap })) → IsNarrow limit image need gap
 narrow_rewrite limit kind works o image is need gap lacks =
     let wanting = places_short limit o.root (length (segment_of lacks.levels.oldest)) (length (segment_of lacks.levels.newest)) (length (list_of lacks.ends)) (record { need = need; gap = gap }) lacks.comes in
     record {
@@ -101,6 +101,7 @@ narrow_rewrite limit kind works o image is need gap lacks =
         there = lacks.there;
         have = lacks.have;
         levels = lacks.levels;
+        read = lacks.read;
         kind_is = works _ lacks.levels lacks.kind_is;
         ends = lacks.ends;
         next = lacks.next;

@@ -35,7 +35,7 @@ use Rattle.alta_root.specs.declared.root.Root.{Root}
 use Rattle.alta_rewrite.specs.declared.levels.NextLevels.{NextLevels}
 use Rattle.alta_rewrite.proofs.JoinedLaws.{merge_is}
 use Rattle.alta_store.specs.Agreement.{Agrees, Has, IsIntact, IsJobIn, Keeps, MaySpeakOf, MaySpeakOfEither, levels_of}
-use Rattle.alta_store.specs.Calls.{Becomes, JoinsAll, NoRefusal, Obeys, is_one}
+use Rattle.alta_store.specs.Calls.{Becomes, HaveLists, JoinsAll, NoRefusal, Obeys, ends_join, is_one}
 use Rattle.alta_store.specs.Putting.{IsDrained, MayPut, Puts}
 use Rattle.alta_store.specs.declared.fault.StoreFault.{StoreFault}
 use Rattle.alta_store.specs.declared.fault.StoreFault.TheVariants as faults
@@ -44,8 +44,8 @@ use Rattle.alta_store.proofs.Agreements.{images_have, images_stand, kept}
 use Rattle.alta_store.proofs.Changing.{costs_none, finds_none}
 use Rattle.alta_store.proofs.Flushing.{ObeysOver, step_reads, two_of}
 use Rattle.alta_store.proofs.Idling.{one_held}
-use Rattle.alta_store.proofs.Joining.{IsJoinOf, job_held, switched_job}
-use Rattle.alta_store.proofs.Tasks.{HasNewest, all_held, all_kind_put, all_may}
+use Rattle.alta_store.proofs.Joining.{IsJoinOf, ends_as, job_held, switched_job}
+use Rattle.alta_store.proofs.Tasks.{HasNewest, all_held, all_kind_put, all_may, all_read}
 use Rattle.alta_store.proofs.Working.{Switches, agrees_read, changes_put, changes_read}
 use Rattle.alta_table.specs.Tables.{Tables}
 use Rattle.alta_content.specs.Joining.{joined_in, terms_in}
@@ -138,8 +138,8 @@ module _ (tells : Type 0) (a : DiskState) (lawful : IsLawful tells a) (store : S
         },
       )
 
-  changes_join : (u : Unit {0}) → ObeysOver tells (steps n) [] a a store later (Ok u)
-  changes_join u = record {
+  changes_join : (image : List ℕ) (u : Unit {0}) → ObeysOver tells (steps n) image [] a a store later (Ok u)
+  changes_join image u = record {
     agrees = agrees_join;
     sound = refl;
     knows = λ s knows. knows;
@@ -149,7 +149,9 @@ module _ (tells : Type 0) (a : DiskState) (lawful : IsLawful tells a) (store : S
     stands = λ s told stands. stands;
     between = λ s speaks. leaves_start tells a (MaySpeakOfEither s s) lawful (λ image here. inl (images_have tells a (MaySpeakOf s) lawful agrees.settled speaks image here));
     speaks = λ s told speaks. speaks;
-    becomes = λ o told is. (o, inl refl, is, keeps_join o (kept store a.content (agrees.content told) o is));
+    becomes = λ o told is.
+        let keeps = kept store a.content (agrees.content told) o is in
+        (o, inl (ap (ends_join n store.job) (sym keeps.levels) ∙ ends_as tells a.content store merging join n false goes_on, refl), is, keeps_join o keeps);
     lacks = λ o need gap told is e. absurd (not_ok (faults.Full need gap) e);
     narrow = λ need gap told e. absurd (not_ok (faults.Full need gap) e);
     damage = λ told. finds_none NoRefusal a.content [] (Ok u) refl (λ place e. not_ok (faults.Damaged place) e);
@@ -177,9 +179,9 @@ step_moves tells a b lawful_a lawful_b store agrees reads whole two merging join
       over = λ told. subst (λ (image : List ℕ). AreJoinedOn image join.joining) (sym (reads.content told)) (join.over told);
       which = join.which;
     } in
-    subst (λ (joins : List Tables). ObeysOver tells (steps n) joins a b store (with_join store more) (Ok u)) (sym (step_reads store two))
-    (changes_read tells (λ limit held. worked limit held (steps n)) (λ limit o outcome. Becomes limit (steps n) o outcome) 1 (two_of store) a b b lawful_a lawful_b store (with_join store more) (Ok u) agrees reads whole
-    (changes_join tells b lawful_b store there merging join_there n more moves goes_on u))
+    subst (λ (joins : List Tables). ObeysOver tells (steps n) a.content joins a b store (with_join store more) (Ok u)) (sym (step_reads store two))
+    (changes_read tells (λ limit held. worked limit held (steps n)) (λ limit o outcome. Becomes limit a.content store.job (steps n) o outcome) 1 (two_of store) a b b lawful_a lawful_b store (with_join store more) (Ok u) agrees reads whole
+    (changes_join tells b lawful_b store there merging join_there n more moves goes_on a.content u))
 
 -- ---- a merge
 
@@ -271,7 +273,12 @@ module _ (tells : Type 0) (a b c : DiskState) (lawful_a : IsLawful tells a) (law
 
   pub merge_put : is_one store ≡ false → (later : Store) → (u : Result (Unit {0}) StoreFault) → OnOk u (later.job ≡ now.job) → Puts tells levels b c store later u → Obeys tells merges (λ s. s) NoRefusal a c store later u
   merge_put some later u job puts =
-      subst (λ (joins : List Tables). ObeysOver tells merges joins a c store later u) (sym (ap (λ (x : Bool). cond x [] (levels_of store)) some))
-      (changes_read tells (λ limit held. worked limit held merges) (λ limit o outcome. Becomes limit merges o outcome) 1 (levels_of store) a b c lawful_a lawful_b store later u agrees reads whole
-      (changes_put tells b c lawful_b lawful_c store now later levels all_put (λ limit held. worked limit held merges) (λ limit o outcome. Becomes limit merges o outcome) (λ held then spaced well e. work_well b.limit held then merges spaced well e) JoinsAll (λ o outcome rewrite. inr rewrite) (λ view levels kind. inr (inr kind))
-      (λ told o is. all_kind_put tells b lawful_b store agrees_there now drained no_job oldest newest has_newest part no_part rows_are levels replaces merged_there told o is) (merge_switches some) u job puts))
+      subst (λ (joins : List Tables). ObeysOver tells merges a.content joins a c store later u) (sym (ap (λ (x : Bool). cond x [] (levels_of store)) some))
+      (changes_read tells (λ limit held. worked limit held merges) (λ limit o outcome. Becomes limit a.content store.job merges o outcome) 1 (levels_of store) a b c lawful_a lawful_b store later u agrees reads whole
+      (changes_put tells b c lawful_b lawful_c store now later levels all_put (λ limit held. worked limit held merges) (λ limit o outcome. Becomes limit a.content store.job merges o outcome)
+      (λ held then spaced well e. work_well b.limit held then merges spaced well e) a.content reads.content JoinsAll (λ told o is outcome rewrite. inr rewrite) (λ view levels kind. (store.job, inr (inr kind)))
+      (λ told o is. all_kind_put tells b lawful_b store agrees_there now drained no_job oldest newest has_newest part no_part rows_are levels replaces merged_there told o is)
+      (λ told o is.
+      subst (λ (image : List ℕ). HaveLists image o (all_put.given o told is).0 levels) (reads.content told)
+      (all_read tells b lawful_b store agrees_there now drained no_job oldest newest has_newest part no_part rows_are levels replaces merged_there told o is))
+      (merge_switches some) u job puts))

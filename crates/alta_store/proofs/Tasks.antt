@@ -1,9 +1,9 @@
 -- Flush, merge and step, each as levels put in place of others.
-use Rattle.std.proofs.Common.{◌≡◌, ◌⊎◌, inl, inr, ⊎_elim, ℕ, ◌+◌, ◌-◌, ◌<◌, ◌≤◌, cond, List, [], ◌∷◌, ◌++◌, length, map, take, drop, refl, sym, ◌∙◌, ap, ap₂, subst, arith}
-use Rattle.std.specs.Prelude.{◌==◌, not, None}
-use Rattle.std.specs.List.{filter}
+use Rattle.std.proofs.Common.{◌≡◌, ◌⊎◌, inl, inr, ⊎_elim, ℕ, ◌+◌, ◌-◌, ◌<◌, ◌≤◌, cond, List, [], ◌∷◌, ◌++◌, length, map, take, drop, true, refl, sym, ◌∙◌, ap, ap₂, append_assoc, subst, arith}
+use Rattle.std.specs.Prelude.{◌==◌, not, Option, Some, None}
+use Rattle.std.specs.List.{All, filter}
 use Rattle.std.proofs.Math.Seq.{drop-length}
-use Rattle.std.proofs.lemmas.List.{append-nil, length-map}
+use Rattle.std.proofs.lemmas.List.{append-nil, length-map, take-map}
 use Rattle.alta_catalog.specs.Knowing.{gone_of, memory_of, newest_of}
 use Rattle.alta_catalog.specs.Replacing.{rows_between}
 use Rattle.alta_codec.specs.declared.extent.Extent.{Extent}
@@ -12,19 +12,21 @@ use Rattle.alta_content.specs.Rows.{ends_among, live_rows}
 use Rattle.alta_content.specs.declared.content.Content.{Content}
 use Rattle.alta_content.specs.declared.document.DocRow.{DocRow}
 use Rattle.alta_disk.specs.Disk.{DiskState, IsLawful}
-use Rattle.alta_meaning.specs.Holding.{Holding, IsHeld, IsSpaced}
+use Rattle.alta_meaning.specs.Holding.{Holding, IsHeld, IsJob, IsSpaced}
 use Rattle.alta_meaning.specs.Levels.{Level}
 use Rattle.alta_meaning.specs.Opened.{Opened, IsOpened, table_rows, extent_of}
 use Rattle.alta_meaning.specs.Standing.{AreLevels, view_of}
 use Rattle.alta_meaning.specs.Views.{View}
-use Rattle.alta_meaning.specs.Work.{anew, coming, gone, newest, newest_content, level_rows}
+use Rattle.alta_meaning.specs.Work.{Job, anew, coming, gone, is_gone, newest as added_in, newest_content, level_rows, oldest_joined}
 use Rattle.alta_meaning.specs.Working.{IsJoin, all_contents, oldest_contents}
+use Rattle.alta_meaning.proofs.KeptStates.{gone_are}
+use Rattle.alta_meaning.proofs.KnownLaws.{all_both, all_weaker}
 use Rattle.alta_meaning.proofs.OneState.{one_are}
 use Rattle.alta_joins.specs.Contents.{AreContentsOf, AreSegmentsOn, level_with, levels_with}
-use Rattle.alta_joins.specs.Jobs.{IsJoining}
+use Rattle.alta_joins.specs.Jobs.{AreJoinedOn, DeadAreGone, IsBegun, IsJoining}
 use Rattle.alta_joins.proofs.JoiningLaws.{joining_join, joining_part, joining_rows}
 use Rattle.alta_joins.proofs.KeptLaws.{held_joins}
-use Rattle.alta_joins.proofs.OpenedLaws.{read_levels_are, with_contents}
+use Rattle.alta_joins.proofs.OpenedLaws.{levels_segments, read_levels_are, with_contents}
 use Rattle.alta_memlevel.specs.Added.{Added, HasContent, live_of}
 use Rattle.alta_memlevel.specs.Documents.{AreMade, content_of}
 use Rattle.alta_merge.specs.Merging.{Merging}
@@ -33,15 +35,17 @@ use Rattle.alta_rewrite.specs.declared.levels.NextLevels.{NextLevels}
 use Rattle.alta_rewrite.proofs.JoinedLaws.{all_given, oldest_given, stay_given}
 use Rattle.alta_rewrite.proofs.RootLaws.{at_most_one}
 use Rattle.alta_rewrite.proofs.SpaceLaws.{opened_spaced}
-use Rattle.alta_store.specs.Agreement.{Agrees, levels_of}
-use Rattle.alta_store.specs.Calls.{JoinsAll, JoinsOldest}
+use Rattle.alta_store.specs.Agreement.{Agrees, IsJobIn, levels_of}
+use Rattle.alta_store.specs.Calls.{HaveLists, JoinsAll, JoinsOldest}
 use Rattle.alta_store.specs.Putting.{IsDrained, IsGivenBy, MayPut}
 use Rattle.alta_store.specs.declared.store.Store.{Store}
 use Rattle.alta_store.proofs.Agreements.{kept}
 use Rattle.alta_store.proofs.Holdings.{content_bytes, gone_held, gone_opened, well_held}
+use Rattle.alta_store.proofs.Joining.{taken_segments}
 use Rattle.alta_store.proofs.Putting.{have_rows, rows_from}
 use Rattle.alta_store.proofs.Rows.{bare, bare_extents, bare_have, bare_rows, flush_kept, flush_left, flush_rows, join_kept, join_left, join_rows, live_newest, live_twice, merge_left}
 use Rattle.alta_table.specs.Tables.{Tables}
+use Rattle.alta_content.proofs.Elements.{all_left}
 use Rattle.alta_content.specs.Joining.{joined_in}
 
 -- What a task was given of the newest documents: the live ones.
@@ -76,6 +80,10 @@ module _ (tells : Type 0) (a : DiskState) (lawful : IsLawful tells a) (store : S
   given_oldest levels n c told o is there have join replaces = λ ends next location with.
       let s = spaced told o is there have in
       oldest_given (view_of o there) levels ends next location n c s.0 s.1 join replaces with
+
+  -- where none is left out, no lists are asked for
+  pub none_read : (image : List ℕ) (o : Opened) (there : List Level) (levels : NextLevels) → levels.stay_from ≡ 0 → HaveLists image o there levels
+  none_read image o there levels none = subst (λ (n : ℕ). AreSegmentsOn image (take n o.levels) (map (λ (l : Level). l.content) (take n there))) (sym none) tt
 
   -- the same of what is held
   pub held_given : (levels : NextLevels) (held : Holding) (has : IsHeld held a.content) → IsGivenBy (view_of has.opened held.view.levels) levels → IsGivenBy held.view levels
@@ -172,9 +180,64 @@ module _ (tells : Type 0) (a : DiskState) (lawful : IsLawful tells a) (store : S
       goes_on = inl no_job;
     }
 
-    pub two_kind : (told : tells) (o : Opened) (is : IsOpened o a.content) → JoinsOldest (view_of o (two_may.given o told is).0) levels
+    -- the job of the join is one over these levels
+    two_over : (told : tells) (o : Opened) → IsOpened o a.content → IsJob joining.job (view_of o joined_there)
+    two_over told o is =
+        let have = joined_have told o is in
+        let view = view_of o joined_there in
+        let both : List DocRow = joining.job.older.documents ++ joining.job.newer.documents in
+        let P : DocRow → Type 0 = λ row. ends_among (gone view) row ≡ is_gone view row in
+        let all : All P (level_rows joined_there) = all_left P (level_rows joined_there) (map (λ (x : Added). x.row) (added_in view)) (gone_are view (spaced told o is joined_there have).0) in
+        let known : All P both = all_left P both (level_rows (bare joining.more)) (subst (All P) (sym (append_assoc joining.job.older.documents joining.job.newer.documents (level_rows (bare joining.more)))) all) in
+        let dead : DeadAreGone joining.job.dead (gone view) both = subst (λ (ends : List ℕ). DeadAreGone joining.job.dead ends both) (gone_there told o is joined_there have) joining.dead in
+        record {
+          older = level_with joining.older joining.job.older;
+          newer = level_with joining.newer joining.job.newer;
+          more = bare joining.more;
+          oldest = refl;
+          contents = (refl, refl);
+          left = joining.left;
+          dead = all_weaker (λ (row : DocRow). (ends_among joining.job.dead row ≡ true → ends_among (gone view) row ≡ true) × P row)
+              (λ (row : DocRow). ends_among joining.job.dead row ≡ true → is_gone view row ≡ true) both (λ row here dead. sym here.1 ∙ here.0 dead)
+              (all_both (λ (row : DocRow). ends_among joining.job.dead row ≡ true → ends_among (gone view) row ≡ true) P both dead known);
+        }
+
+    -- what comes in place of them is what the job comes to, or a join without all that is gone
+    two_joins : (store.job ≡ Some merging) ⊎ ((store.job ≡ None) × IsBegun joining) → (told : tells) (o : Opened) (is : IsOpened o a.content) → JoinsOldest store.job (view_of o joined_there) levels
+    two_joins which told o is = ⊎_elim (λ goes. by_job goes) (λ begins. by_none begins.0 begins.1) which
+      where
+        by : (job : Option Job) → oldest ≡ oldest_joined job (view_of o joined_there) → Replaces levels 2 (oldest_joined job (view_of o joined_there)) (newest_content (view_of o joined_there))
+        by job same = subst (λ (c : Content). Replaces levels 2 c (newest_content (view_of o joined_there))) same (two_replace told o is joined_there (joined_have told o is))
+
+        by_job : store.job ≡ Some merging → JoinsOldest store.job (view_of o joined_there) levels
+        by_job goes = record {
+          job = Some joining.job;
+          is = subst (λ (m : Option Merging). IsJobIn m (Some joining.job)) (sym goes) joining.is;
+          over = two_over told o is;
+          replaces = by (Some joining.job) (oldest_is ∙ joining.is.whole);
+        }
+
+        by_none : store.job ≡ None → IsBegun joining → JoinsOldest store.job (view_of o joined_there) levels
+        by_none none begun = record {
+          job = None;
+          is = subst (λ (m : Option Merging). IsJobIn m None) (sym none) tt;
+          over = tt;
+          replaces = by None
+              (oldest_is ∙ joining.is.whole
+              ∙ ap (joined_in (joining.job.older ∷ joining.job.newer ∷ [])) (begun.0 ∙ gone_there told o is joined_there (joined_have told o is)));
+        }
+
+    pub two_kind : (store.job ≡ Some merging) ⊎ ((store.job ≡ None) × IsBegun joining) → (told : tells) (o : Opened) (is : IsOpened o a.content) → JoinsOldest store.job (view_of o (two_may.given o told is).0) levels
     unfolding two_may
-    two_kind told o is = (oldest, two_join told o is, two_replace told o is joined_there (joined_have told o is))
+    two_kind which told o is = two_joins which told o is
+
+    -- they have the lists of an image on which the join's contents stand
+    pub two_read : (image : List ℕ) → AreJoinedOn image joining → (told : tells) (o : Opened) (is : IsOpened o a.content) → HaveLists image o (two_may.given o told is).0 levels
+    unfolding two_may
+    two_read image over told o is =
+        let levels_are : o.levels ≡ joining.older ∷ joining.newer ∷ joining.more = sym (kept store a.content (agrees.content told) o is).levels ∙ joining.oldest in
+        subst (λ (n : ℕ). AreSegmentsOn image (take n o.levels) (map (λ (l : Level). l.content) (take n joined_there))) (sym replaces.stay_from_is)
+        (subst (λ (ls : List Tables). AreSegmentsOn image (take 2 ls) (joining.job.older ∷ joining.job.newer ∷ [])) (sym levels_are) over)
 
     -- of what is held
     pub two_held : (told : tells) (held : Holding) → (has : IsHeld held a.content) → IsJoin held.view (oldest_contents held.view) oldest → IsGivenBy held.view levels
@@ -246,6 +309,14 @@ module _ (tells : Type 0) (a : DiskState) (lawful : IsLawful tells a) (store : S
       given = λ o told is. let f = found told o is in (f.0, f.3, given_all told o is);
       goes_on = inl no_job;
     }
+
+    pub all_read : (told : tells) (o : Opened) (is : IsOpened o a.content) → HaveLists a.content o (all_may.given o told is).0 levels
+    unfolding all_may
+    all_read told o is =
+        let f = found told o is in
+        let whole = levels_segments o f.0 a.content (content_bytes tells a lawful told) is f.1 in
+        subst (AreSegmentsOn a.content (take levels.stay_from o.levels)) (take-map (λ (l : Level). l.content) levels.stay_from f.0)
+        (taken_segments levels.stay_from a.content o.levels (map (λ (l : Level). l.content) f.0) whole)
 
     pub all_kind_put : (told : tells) (o : Opened) (is : IsOpened o a.content) → JoinsAll (view_of o (all_may.given o told is).0) levels
     unfolding all_may

@@ -1,10 +1,10 @@
 -- A task that puts levels in place of others is a change of the store.
 use Rattle.std.proofs.Common.{◌≡◌, inl, inr, ⊎_elim, ℕ, ◌+◌, List, [], refl, sym, ◌∙◌, ap, subst, arith, Result, Ok, Err}
-use Rattle.std.specs.Prelude.{Option, OnOk, ⊤}
+use Rattle.std.specs.Prelude.{Option, OnOk}
 use Rattle.std.specs.List.{sum_by}
 use Rattle.alta_content.specs.declared.content.Content.{Content}
 use Rattle.alta_disk.specs.Calls.{Reads}
-use Rattle.alta_disk.specs.Disk.{DiskState, IsLawful, LeavesOnly, Passes, Same}
+use Rattle.alta_disk.specs.Disk.{DiskState, IsLawful, LeavesOnly, Same}
 use Rattle.alta_disk.proofs.Moments.{leaves_as, leaves_from, leaves_now, leaves_then, only_same}
 use Rattle.alta_meaning.specs.Holding.{Holding, IsSpaced, IsWell}
 use Rattle.alta_meaning.specs.Opened.{Opened, IsOpened}
@@ -21,7 +21,7 @@ use Rattle.alta_rewrite.specs.Rewrites.{levels_to_come}
 use Rattle.alta_rewrite.specs.declared.levels.NextLevels.{NextLevels}
 use Rattle.alta_store.specs.Agreement.{Agrees, GoesOnOver, Has, KeepsOpened, IsJobIn, Keeps, MaySpeakOf, MaySpeakOfEither, levels_of}
 use Rattle.alta_catalog.specs.Knowing.{gone_of}
-use Rattle.alta_store.specs.Calls.{Changes, IsNarrow, IsRewrite, IsWork, NoRefusal}
+use Rattle.alta_store.specs.Calls.{Changes, HaveLists, IsNarrow, IsRewrite, IsWork, NoRefusal}
 use Rattle.alta_store.specs.Putting.{IsGivenBy, IsPut, MayPut, Puts, ReadsLevels}
 use Rattle.alta_store.specs.declared.fault.StoreFault.{StoreFault}
 use Rattle.alta_store.specs.declared.fault.StoreFault.TheVariants as faults
@@ -43,9 +43,11 @@ pub record Switches (limit : ℕ) (work : Work) (now : Store) (levels : NextLeve
 
 module _ (tells : Type 0) (a b : DiskState) (lawful_a : IsLawful tells a) (lawful_b : IsLawful tells b) (store now later : Store) (levels : NextLevels) (may : MayPut tells a store now levels) (work : Work) (turns : Turns)
     (well : (held then : Holding) → IsSpaced held.view → IsWell held → work a.limit held ≡ Ok then → IsWell then)
-    (kind : View → NextLevels → Type 0) (becomes_by : (o : Opened) (outcome : Result Opened Full) → IsRewrite a.limit kind o outcome → turns a.limit o outcome)
+    (image : List ℕ) (same_image : tells → a.content ≡ image) (kind : View → NextLevels → Type 0)
+    (becomes_by : (told : tells) (o : Opened) → IsOpened o a.content → (outcome : Result Opened Full) → IsRewrite a.limit image kind o outcome → turns a.limit o outcome)
     (work_is : (view : View) (levels : NextLevels) → kind view levels → IsWork view levels)
     (kind_is : (told : tells) (o : Opened) (is : IsOpened o a.content) → kind (view_of o (may.given o told is).0) levels)
+    (read_is : (told : tells) (o : Opened) (is : IsOpened o a.content) → HaveLists image o (may.given o told is).0 levels)
     (switches : (held : Holding) → tells → Has store held a.content → Switches a.limit work now levels held) where
   images_put : {T : Type 0} (result : Result T StoreFault) → Puts tells levels a b store later result → (s : State) → (tells → StandsFor s a.content) → LeavesOnly (StandsForEither s s) a b
   images_put result puts s stands =
@@ -57,11 +59,12 @@ module _ (tells : Type 0) (a b : DiskState) (lawful_a : IsLawful tells a) (lawfu
   between_put result puts s speaks = leaves_as a b (MaySpeakOf s) (MaySpeakOfEither s s) (puts.between s speaks) (λ image here. inl here)
 
   -- what a rewrite comes to
-  rewritten : (told : tells) (o : Opened) (is : IsOpened o a.content) (outcome : Result Opened Full) → IsPut a.limit levels (view_of o (may.given o told is).0) o outcome → IsRewrite a.limit kind o outcome
+  rewritten : (told : tells) (o : Opened) (is : IsOpened o a.content) (outcome : Result Opened Full) → IsPut a.limit levels (view_of o (may.given o told is).0) o outcome → IsRewrite a.limit image kind o outcome
   rewritten told o is outcome put = record {
     there = (may.given o told is).0;
     have = (may.given o told is).1;
     levels = levels;
+    read = read_is told o is;
     kind_is = kind_is told o is;
     ends = put.ends;
     next = put.next;
@@ -72,14 +75,15 @@ module _ (tells : Type 0) (a b : DiskState) (lawful_a : IsLawful tells a) (lawfu
 
   -- a place is wanting
   lacks_put : {T : Type 0} (result : Result T StoreFault) → Puts tells levels a b store later result → (o : Opened) (need gap : ℕ) → tells → IsOpened o a.content → result ≡ Err (faults.Full need gap)
-      → IsRewrite a.limit kind o (Err (record { need = need; gap = gap }))
+      → IsRewrite a.limit image kind o (Err (record { need = need; gap = gap }))
   lacks_put result puts o need gap told is e =
       let given = may.given o told is in rewritten told o is (Err (record { need = need; gap = gap })) (puts.lacks o given.0 need gap told is given.1 given.2 e)
 
   narrow_put : {T : Type 0} (result : Result T StoreFault) → Puts tells levels a b store later result → (need gap : ℕ) → tells → result ≡ Err (faults.Full need gap) → IsNarrow a.limit b.content need gap
   narrow_put result puts need gap told e =
       let holds = may.agrees.content told in
-      narrow_rewrite a.limit kind work_is holds.opened b.content (subst (IsOpened holds.opened) (sym (puts.unwritten need gap e)) holds.is) need gap (lacks_put result puts holds.opened need gap told holds.is e)
+      subst (λ (there : List ℕ). IsNarrow a.limit there need gap) (sym (puts.unwritten need gap e ∙ same_image told))
+      (narrow_rewrite a.limit kind work_is holds.opened image (subst (IsOpened holds.opened) (same_image told) holds.is) need gap (lacks_put result puts holds.opened need gap told holds.is e))
 
   pub changes_put : (u : Result (Unit {0}) StoreFault) → OnOk u (later.job ≡ now.job) → Puts tells levels a b store later u
       → Changes tells work turns (λ s. s) NoRefusal 1 [] a b store later u
@@ -107,7 +111,7 @@ module _ (tells : Type 0) (a b : DiskState) (lawful_a : IsLawful tells a) (lawfu
         let given = may.given o told is in
         let w = puts.becomes o given.0 told is given.1 given.2 in (
           w.0,
-          becomes_by o (Ok w.0) (rewritten told o is (Ok w.0) w.1),
+          becomes_by told o is (Ok w.0) (rewritten told o is (Ok w.0) w.1),
           w.2,
           w.3,
         );
@@ -136,7 +140,7 @@ module _ (tells : Type 0) (a b : DiskState) (lawful_a : IsLawful tells a) (lawfu
     between = between_put (Err fault) puts;
     speaks = λ s told was. tt;
     becomes = λ o told is. tt;
-    lacks = λ o need gap told is e. becomes_by o (Err (record { need = need; gap = gap })) (lacks_put (Err fault) puts o need gap told is e);
+    lacks = λ o need gap told is e. becomes_by told o is (Err (record { need = need; gap = gap })) (lacks_put (Err fault) puts o need gap told is e);
     narrow = narrow_put (Err fault) puts;
     damage = λ told. finds_none NoRefusal a.content [] (Err fault) refl no_damage;
     undamaged = λ s told stands place e. no_damage place e;

@@ -1,26 +1,25 @@
 -- What a call that changes a store does, in one word.
 use Rattle.std.specs.Prelude.{◌≡◌, ◌⊎◌, ◌<◌, ◌+◌, ◌==◌, ◌&&◌, ◌||◌, nat_le, not, ℕ, Bool, cond, true, false, List, [], length, map, take, Option, Some, None, Result, Ok, Err, OnOk, IfOk, IfErr}
-use Rattle.std.specs.List.{sum_by}
+use Rattle.std.specs.List.{flat_map, sum_by}
 use Rattle.alta_layout.specs.Places.{half_start}
 use Rattle.alta_catalog.specs.Knowing.{gone_of, memory_of}
 use Rattle.alta_codec.specs.Faults.{Rose}
 use Rattle.alta_codec.specs.declared.extent.Extent.{Extent}
 use Rattle.alta_content.specs.Rows.{live_rows}
-use Rattle.alta_content.specs.declared.content.Content.{Content}
 use Rattle.alta_disk.specs.Calls.{Costs}
 use Rattle.alta_disk.specs.Disk.{DiskState, LeavesOnly}
 use Rattle.alta_meaning.specs.Broken.{IsBrokenAmong}
 use Rattle.alta_meaning.specs.Chain.{◌>>=◌}
-use Rattle.alta_meaning.specs.Holding.{Holding}
+use Rattle.alta_meaning.specs.Holding.{Holding, IsJobOf}
 use Rattle.alta_meaning.specs.Levels.{Level}
 use Rattle.alta_meaning.specs.Opened.{Opened, IsOpened}
 use Rattle.alta_meaning.specs.Standing.{StandsFor, StandsForEither, view_of}
 use Rattle.alta_meaning.specs.Switching.{with_entry}
 use Rattle.alta_meaning.specs.Entries.{after_entry}
 use Rattle.alta_meaning.specs.Views.{View}
-use Rattle.alta_meaning.specs.Work.{Task, enters, fits, flushes, gone, merges, needs_raise, newest_content, steps}
-use Rattle.alta_meaning.specs.Working.{AreFirstGaps, Full, IsJoin, all_contents, entered, worked, written}
-use Rattle.alta_joins.specs.Contents.{data_size}
+use Rattle.alta_meaning.specs.Work.{Job, Task, enters, fits, flushes, gone, merges, needs_raise, newest_content, oldest_joined, steps}
+use Rattle.alta_meaning.specs.Working.{AreFirstGaps, Full, all_contents, entered, worked, written}
+use Rattle.alta_joins.specs.Contents.{AreSegmentsOn, data_size}
 use Rattle.alta_joins.specs.Damages.{IsFirstDamage}
 use Rattle.alta_journal.specs.Record.{body_of}
 use Rattle.alta_journal.specs.declared.entry.Entry.{Entry}
@@ -32,13 +31,14 @@ use Rattle.alta_rewrite.specs.declared.ends.Ends.{Ends}
 use Rattle.alta_rewrite.specs.declared.levels.NextLevels.{NextLevels}
 use Rattle.alta_root.specs.Gaps.{IsLongestGap, taken_by}
 use Rattle.alta_root.specs.Root.{extents_of}
-use Rattle.alta_store.specs.Agreement.{Agrees, Has, Keeps, Knows, MaySpeakOf, MaySpeakOfEither, is_sound, levels_of, room_of}
+use Rattle.alta_store.specs.Agreement.{Agrees, Has, IsJobIn, Keeps, Knows, MaySpeakOf, MaySpeakOfEither, is_sound, levels_of, room_of}
 use Rattle.alta_store.specs.Answers.{IsOutside}
 use Rattle.alta_store.specs.declared.fault.StoreFault.{StoreFault}
 use Rattle.alta_store.specs.declared.fault.StoreFault.TheVariants as faults
 use Rattle.alta_store.specs.declared.store.Store.{Store}
 use Rattle.alta_table.specs.Tables.{Tables}
-use Rattle.alta_content.specs.Joining.{joined_in}
+use Rattle.alta_table.specs.Terms.{terms_of}
+use Rattle.alta_content.specs.Joining.{in_order, joined_in}
 
 -- ---- which entries find the root switched before them
 
@@ -91,11 +91,19 @@ abbrev pub ComesTo : ℕ → Opened → NextLevels → Ends → ℕ → ℕ → 
 ComesTo limit o levels ends next location (Ok p) = IsComing limit o p levels ends next location
 ComesTo limit o levels ends next location (Err full) = rewrite_places limit o.root levels ends ≡ Err full
 
--- The root is switched to levels of this kind, or one of those to write, or the list, has no place.
-pub record IsRewrite (limit : ℕ) (kind : View → NextLevels → Type 0) (o : Opened) (outcome : Result Opened Full) : Type 0 where
+-- of levels that have the rows of what is opened, those that do not stay have the lists too that stand on an image
+abbrev pub HaveLists : List ℕ → Opened → List Level → NextLevels → Type 0
+HaveLists image o there levels =
+    AreSegmentsOn image (take levels.stay_from o.levels) (map (λ (l : Level). l.content) (take levels.stay_from there))
+
+-- The root is switched to levels of this kind, or one of those to write, or the list, has no place. What comes in place of levels is made
+-- of the lists that stand on the image.
+pub record IsRewrite (limit : ℕ) (image : List ℕ) (kind : View → NextLevels → Type 0) (o : Opened) (outcome : Result Opened Full)
+    : Type 0 where
   pub there : List Level
   pub have : HaveRows o there
   pub levels : NextLevels
+  pub read : HaveLists image o there levels
   pub kind_is : kind (view_of o there) levels
   pub ends : Ends
   pub next : ℕ
@@ -107,9 +115,13 @@ pub record IsRewrite (limit : ℕ) (kind : View → NextLevels → Type 0) (o : 
 abbrev pub AddsNewest : View → NextLevels → Type 0
 AddsNewest view levels = Replaces levels 0 no_content (newest_content view)
 
--- a join of the two oldest comes in place of them, and the newest documents behind all
-abbrev pub JoinsOldest : View → NextLevels → Type 0
-JoinsOldest view levels = (c : Content) × IsJoin view (map (λ (l : Level). l.content) (take 2 view.levels)) c × Replaces levels 2 c (newest_content view)
+-- The join of the two oldest comes in place of them, and the newest documents come behind all: by the job of the join that goes on, or else
+-- without all that is gone.
+pub record JoinsOldest (going : Option Merging) (view : View) (levels : NextLevels) : Type 0 where
+  pub job : Option Job
+  pub is : IsJobIn going job
+  pub over : IsJobOf job view
+  pub replaces : Replaces levels 2 (oldest_joined job view) (newest_content view)
 
 -- the join of all levels and the newest documents comes in place of all
 abbrev pub JoinsAll : View → NextLevels → Type 0
@@ -119,36 +131,53 @@ JoinsAll view levels = Replaces levels (length view.levels) (joined_in (all_cont
 abbrev pub is_many : View → Bool
 is_many view = length view.levels == 16 && nat_le 1 (length (newest_content view).documents)
 
-abbrev pub Flushes : View → NextLevels → Type 0
-Flushes view levels = ((is_many view ≡ false) × AddsNewest view levels) ⊎ ((is_many view ≡ true) × JoinsOldest view levels)
+abbrev pub Flushes : Option Merging → View → NextLevels → Type 0
+Flushes going view levels = ((is_many view ≡ false) × AddsNewest view levels) ⊎ ((is_many view ≡ true) × JoinsOldest going view levels)
+
+-- the terms of levels, in collating order, each once
+abbrev pub terms_by : List Tables → List (List ℕ)
+terms_by levels = in_order (flat_map (λ (t : Tables). terms_of t.terms) levels)
+
+-- A step of so many terms ends the join that goes on, where no more are left of it; or one that begins, where the two oldest levels have no
+-- more.
+abbrev pub ends_join : ℕ → Option Merging → List Tables → Bool
+ends_join n (Some merging) levels = nat_le (length merging.left) n
+ends_join n None levels = nat_le 2 (length levels) && nat_le (length (terms_by (take 2 levels))) n
 
 -- Behind a flush an image is opened as before, where the journal has no entry, or else with the newest documents in a level.
-abbrev pub BecomesFlushed : ℕ → Opened → Result Opened Full → Type 0
-BecomesFlushed limit o outcome = ((o.entries ≡ []) × (outcome ≡ Ok o)) ⊎ IsRewrite limit Flushes o outcome
+abbrev pub BecomesFlushed : ℕ → List ℕ → Option Merging → Opened → Result Opened Full → Type 0
+BecomesFlushed limit image going o outcome = ((o.entries ≡ []) × (outcome ≡ Ok o)) ⊎ IsRewrite limit image (Flushes going) o outcome
 
 -- Behind a merge it is opened as before, where there is nothing to merge, or else with one level at most.
-abbrev pub BecomesMerged : ℕ → Opened → Result Opened Full → Type 0
-BecomesMerged limit o outcome = (((nat_le (length o.levels) 1 && length o.deleted == 0 && length o.entries == 0) ≡ true) × (outcome ≡ Ok o)) ⊎ IsRewrite limit JoinsAll o outcome
+abbrev pub BecomesMerged : ℕ → List ℕ → Opened → Result Opened Full → Type 0
+BecomesMerged limit image o outcome =
+    (((nat_le (length o.levels) 1 && length o.deleted == 0 && length o.entries == 0) ≡ true) × (outcome ≡ Ok o))
+    ⊎ IsRewrite limit image JoinsAll o outcome
 
--- Behind a step it is opened as before, or with the two oldest levels joined.
-abbrev pub BecomesStepped : ℕ → Opened → Result Opened Full → Type 0
-BecomesStepped limit o outcome = (outcome ≡ Ok o) ⊎ IsRewrite limit JoinsOldest o outcome
+-- Behind a step it is opened as before, where its join does not end, or else with the two oldest levels joined.
+abbrev pub BecomesStepped : ℕ → List ℕ → Option Merging → ℕ → Opened → Result Opened Full → Type 0
+BecomesStepped limit image going n o outcome =
+    ((ends_join n going o.levels ≡ false) × (outcome ≡ Ok o))
+    ⊎ ((ends_join n going o.levels ≡ true) × IsRewrite limit image (JoinsOldest going) o outcome)
 
 -- With room for an entry: as before where there is room, or else with the newest documents in a level and an empty journal, under a root of
 -- the last version.
-abbrev pub GetsRoom : ℕ → Entry → Opened → Result Opened Full → Type 0
-GetsRoom limit entry o outcome =
-    ((lacks_room o.root.version o.entries entry ≡ false) × (outcome ≡ Ok o)) ⊎ ((lacks_room o.root.version o.entries entry ≡ true) × IsRewrite limit Flushes o outcome)
+abbrev pub GetsRoom : ℕ → List ℕ → Option Merging → Entry → Opened → Result Opened Full → Type 0
+GetsRoom limit image going entry o outcome =
+    ((lacks_room o.root.version o.entries entry ≡ false) × (outcome ≡ Ok o))
+    ⊎ ((lacks_room o.root.version o.entries entry ≡ true) × IsRewrite limit image (Flushes going) o outcome)
 
 -- with an entry more
-abbrev pub BecomesEntered : ℕ → Entry → Opened → Result Opened Full → Type 0
-BecomesEntered limit entry o outcome = (roomy : Result Opened Full) × GetsRoom limit entry o roomy × (outcome ≡ (roomy >>= λ p. Ok (with_entry p entry)))
+abbrev pub BecomesEntered : ℕ → List ℕ → Option Merging → Entry → Opened → Result Opened Full → Type 0
+BecomesEntered limit image going entry o outcome =
+    (roomy : Result Opened Full) × GetsRoom limit image going entry o roomy × (outcome ≡ (roomy >>= λ p. Ok (with_entry p entry)))
 
-abbrev pub Becomes : ℕ → Task → Opened → Result Opened Full → Type 0
-Becomes limit (enters entry) o outcome = BecomesEntered limit entry o outcome
-Becomes limit flushes o outcome = BecomesFlushed limit o outcome
-Becomes limit merges o outcome = BecomesMerged limit o outcome
-Becomes limit (steps n) o outcome = BecomesStepped limit o outcome
+-- What a task makes of an image that is opened so, where this join goes on.
+abbrev pub Becomes : ℕ → List ℕ → Option Merging → Task → Opened → Result Opened Full → Type 0
+Becomes limit image going (enters entry) o outcome = BecomesEntered limit image going entry o outcome
+Becomes limit image going flushes o outcome = BecomesFlushed limit image going o outcome
+Becomes limit image going merges o outcome = BecomesMerged limit image o outcome
+Becomes limit image going (steps n) o outcome = BecomesStepped limit image going n o outcome
 
 -- no fault refuses
 abbrev pub NoRefusal : StoreFault → Type 0
@@ -156,16 +185,16 @@ NoRefusal fault = ⊥
 
 -- ---- where no place is left
 
--- levels that a flush, a step or a merge puts in place of others
+-- levels that a flush, a step or a merge puts in place of others, whichever join goes on
 abbrev pub IsWork : View → NextLevels → Type 0
-IsWork view levels = Flushes view levels ⊎ (JoinsOldest view levels ⊎ JoinsAll view levels)
+IsWork view levels = (going : Option Merging) × (Flushes going view levels ⊎ (JoinsOldest going view levels ⊎ JoinsAll view levels))
 
--- The image is opened, and a switch of its root, by a flush, a step or a merge, lacks a place: the gap is the greatest beside the extents of
--- the root and those that are placed before in this switch, each at the first gap, and the need is above it.
+-- The image is opened, and a switch of its root, by a flush, a step or a merge of what stands there, lacks a place: the gap is the greatest
+-- beside the extents of the root and those that are placed before in this switch, each at the first gap, and the need is above it.
 pub record IsNarrow (limit : ℕ) (image : List ℕ) (need gap : ℕ) : Type 0 where
   pub opened : Opened
   pub is : IsOpened opened image
-  pub lacks : IsRewrite limit IsWork opened (Err (record { need = need; gap = gap }))
+  pub lacks : IsRewrite limit image IsWork opened (Err (record { need = need; gap = gap }))
   pub extra : List Extent
   pub first : AreFirstGaps limit (extents_of opened.root) extra
   pub longest : IsLongestGap (taken_by opened.root extra) limit gap
@@ -219,18 +248,21 @@ pub record Changes {T : Type 0} (tells : Type 0) (work : ℕ → Holding → Res
 -- a call that does a task
 abbrev pub Obeys : {T : Type 0} → Type 0 → Task → (State → State) → (StoreFault → Type 0) → DiskState → DiskState → Store → Store → Result T StoreFault → Type 0
 Obeys tells task step refuses before after store later result =
-    Changes tells (λ limit held. worked limit held task) (λ limit o outcome. Becomes limit task o outcome) step refuses 1 (joined_by store task) before after store later result
+    Changes tells (λ limit held. worked limit held task) (λ limit o outcome. Becomes limit before.content store.job task o outcome)
+    step refuses 1 (joined_by store task) before after store later result
 
 -- a call that makes the live newest documents a level and switches the root, also with an empty journal
 abbrev pub Writes : {T : Type 0} → Type 0 → DiskState → DiskState → Store → Store → Result T StoreFault → Type 0
 Writes tells before after store later result =
-    Changes tells written (λ limit o outcome. IsRewrite limit Flushes o outcome) (λ s. s) NoRefusal 1 (flush_joins store) before after store later result
+    Changes tells written (λ limit o outcome. IsRewrite limit before.content (Flushes store.job) o outcome) (λ s. s) NoRefusal
+    1 (flush_joins store) before after store later result
 
 -- a call that makes room for an entry, by a switch of the root where there is none
 abbrev pub MakesRoom : {T : Type 0} → Type 0 → Entry → DiskState → DiskState → Store → Store → Result T StoreFault → Type 0
 MakesRoom tells entry before after store later result =
     Changes tells (λ limit held. cond (lacks_room held.view.version held.view.entries entry) (written limit held) (Ok held))
-    (λ limit o outcome. GetsRoom limit entry o outcome) (λ s. s) NoRefusal 1 (joined_by store (enters entry)) before after store later result
+    (λ limit o outcome. GetsRoom limit before.content store.job entry o outcome) (λ s. s) NoRefusal
+    1 (joined_by store (enters entry)) before after store later result
 
 -- the step that an entry makes of each state that a store knows
 abbrev pub IsStepOf : Entry → (State → State) → Store → Type 0

@@ -23,7 +23,7 @@ returns-in-Err g c =
     let b = g.D.Disk.state c.take_join.new.disk in
     let store = c.args.self.now in
     let result : Result (Unit {0}) StoreFault = Err c.in-Err.fault in
-    subst (λ (joins : List Tables). ObeysOver tells (steps c.args.n) joins a b store c.take_join.new.self result) (sym (step_reads store c.requires.two))
+    subst (λ (joins : List Tables). ObeysOver tells (steps c.args.n) a.content joins a b store c.take_join.new.self result) (sym (step_reads store c.requires.two))
     (changes_unread tells _ _ 1 (two_of store) a b (g.met.D.Disk.lawful c.args.disk.now) (g.met.D.Disk.lawful c.take_join.new.disk) store c.take_join.new.self c.in-Err.fault c.requires.agrees
     (segments_read tells a (g.met.D.Disk.lawful c.args.disk.now) store c.requires.agrees store.job) c.in-Err.ensures.reads)
 
@@ -48,7 +48,7 @@ returns-in-Err-step_job g c =
     let b = g.D.Disk.state c.take_join.new.disk in
     let store = c.args.self.now in
     let result : Result (Unit {0}) StoreFault = Err Memory in
-    subst (λ (joins : List Tables). ObeysOver tells (steps c.args.n) joins a b store c.take_join.new.self result) (sym (step_reads store c.requires.two))
+    subst (λ (joins : List Tables). ObeysOver tells (steps c.args.n) a.content joins a b store c.take_join.new.self result) (sym (step_reads store c.requires.two))
     (changes_unread {X = Unit {0}} tells _ _ 1 (two_of store) a b (g.met.D.Disk.lawful c.args.disk.now) (g.met.D.Disk.lawful c.take_join.new.disk) store c.take_join.new.self Memory c.requires.agrees
     (segments_read tells a (g.met.D.Disk.lawful c.args.disk.now) store c.requires.agrees store.job) (memory_wanting tells (two_of store) a b c.in-Ok.ensures.reads.reads))
 
@@ -59,8 +59,8 @@ returns-in-Err-drain g c =
     let b = g.D.Disk.state c.take_join.new.disk in
     let store = c.args.self.now in
     let failed : StoreFault → Result (Unit {0}) StoreFault = λ fault. Err fault in
-    subst (λ (joins : List Tables). ObeysOver tells (steps c.args.n) joins a b store c.drain.new.self (failed c.in-Err-drain.fault)) (sym (step_reads store c.requires.two))
-    (subst (λ (fault : StoreFault). ObeysOver tells (steps c.args.n) (two_of store) a b store c.drain.new.self (failed fault)) (sym c.in-Err-drain.ensures.memory)
+    subst (λ (joins : List Tables). ObeysOver tells (steps c.args.n) a.content joins a b store c.drain.new.self (failed c.in-Err-drain.fault)) (sym (step_reads store c.requires.two))
+    (subst (λ (fault : StoreFault). ObeysOver tells (steps c.args.n) a.content (two_of store) a b store c.drain.new.self (failed fault)) (sym c.in-Err-drain.ensures.memory)
     (changes_unread {X = Unit {0}} tells _ _ 1 (two_of store) a b (g.met.D.Disk.lawful c.args.disk.now) (g.met.D.Disk.lawful c.take_join.new.disk) store c.drain.new.self Memory c.requires.agrees
     (segments_read tells a (g.met.D.Disk.lawful c.args.disk.now) store c.requires.agrees store.job) (memory_wanting tells (two_of store) a b c.in-Ok.ensures.reads.reads)))
 

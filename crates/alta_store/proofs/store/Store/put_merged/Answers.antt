@@ -49,7 +49,7 @@ returns-in-Err-merge_levels g c =
     let clauses = c.in-Err-merge_levels.ensures in
     let read = read_failed {X = Content} tells c.levels-levels.result.now a b c.in-Err-merge_levels.fault c.load_fault.result c.load_fault.ensures clauses.damage clauses.broken clauses.retrieves.cause clauses.retrieves.reads in
     let result : Result (Unit {0}) StoreFault = Err c.load_fault.result in
-    subst (λ (joins : List Tables). ObeysOver tells merges joins a b store c.drain.new.self result) (sym (ap (λ (x : Bool). cond x [] (levels_of store)) c.requires.some))
+    subst (λ (joins : List Tables). ObeysOver tells merges a.content joins a b store c.drain.new.self result) (sym (ap (λ (x : Bool). cond x [] (levels_of store)) c.requires.some))
     (changes_unread tells _ _ 1 (levels_of store) a b (g.met.D.Disk.lawful c.args.disk.now) (g.met.D.Disk.lawful c.merge_levels.new.disk) store c.drain.new.self c.load_fault.result c.requires.agrees
     (segments_here tells a (g.met.D.Disk.lawful c.args.disk.now) store c.requires.agrees) (subst (λ (levels : List Tables). ReadsLevels {T = Content} tells levels a b (Err c.load_fault.result)) same read))
 
