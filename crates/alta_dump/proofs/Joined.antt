@@ -1,5 +1,5 @@
 -- A text of words, one word more at a time.
-use Rattle.std.proofs.Common.{◌≡◌, ℕ, zero, suc, ◌+◌, ◌<◌, List, [], ◌∷◌, ◌++◌, append_assoc, length, get_or, map, take, Bool, true, false, refl, sym, ap, ◌∙◌, arith}
+use Rattle.std.proofs.Common.{◌≡◌, ℕ, zero, suc, ◌+◌, ◌<◌, List, [], ◌∷◌, ◌++◌, append_assoc, length, get_or, map, take, Bool, true, false, refl, sym, ap, subst, ◌∙◌, arith}
 use Rattle.std.specs.Prelude.{◌==◌, if◌then◌else◌}
 use Rattle.std.specs.List.{list_all, join_with_byte}
 use Rattle.std.proofs.lemmas.Bool.{and_parts, ne_eqb}
@@ -36,10 +36,10 @@ word_there p [] i d lt all = absurd (omega (arith, lt))
 word_there p (word ∷ words) zero d lt all = (and_parts (p word) (list_all p words) all).0
 word_there p (word ∷ words) (suc i) d lt all = word_there p words i d (omega (arith, lt)) (and_parts (p word) (list_all p words) all).1
 
-pub text_step : (terms : List (List ℕ)) (words : List Held) (i : ℕ) (d : Held) (old new : List ℕ) → i < length words → (list_all (is_word terms) words ≡ true → old ≡ text_seen terms (take i words))
-    → (is_word terms (get_or words i d) ≡ true → new ≡ old ++ (if i == 0 then word_at terms (get_or words i d) else 32 ∷ word_at terms (get_or words i d)))
+pub text_step : (terms : List (List ℕ)) (words : List Held) (i : ℕ) (d h : Held) (old new : List ℕ) → i < length words → h ≡ get_or words i d
+    → (list_all (is_word terms) words ≡ true → old ≡ text_seen terms (take i words)) → (is_word terms h ≡ true → new ≡ old ++ (if i == 0 then word_at terms h else 32 ∷ word_at terms h))
     → list_all (is_word terms) words ≡ true → new ≡ text_seen terms (take (i + 1) words)
-text_step terms words i d old new lt so_far more fine =
-    more (word_there (is_word terms) words i d lt fine)
+text_step terms words i d h old new lt is so_far more fine =
+    subst (λ (k : Held). is_word terms k ≡ true → new ≡ old ++ (if i == 0 then word_at terms k else 32 ∷ word_at terms k)) is more (word_there (is_word terms) words i d lt fine)
     ∙ ap (λ (bytes : List ℕ). bytes ++ spaced (i == 0) (word_at terms (get_or words i d))) (so_far fine)
     ∙ sym (text_more terms words i d lt)

@@ -1,6 +1,6 @@
 -- The places of the cells of rows.
 use Rattle.std.proofs.Common.{◌≡◌, ℕ, zero, suc, ◌+◌, ◌-◌, ◌<◌, ◌≤◌, Bool, true, false, cond, leb, not, ◌&&◌, List, [], ◌∷◌, ◌++◌, length, map, take, get_or, refl, sym, ap, subst, ◌∙◌, arith, append-nil, append_assoc}
-use Rattle.std.specs.List.{All}
+use Rattle.std.specs.List.{All, range_with_len}
 use Rattle.std.proofs.lemmas.Bool.{le-leb}
 use Rattle.std.proofs.lemmas.List.{get_or_default}
 use Rattle.std.proofs.lemmas.List.Elements.{All-nil, All-cons, All-append, All-filter, All-get_or, All-head, All-tail}
@@ -15,53 +15,11 @@ use Rattle.alta_memlevel.specs.Added.{Added, IsSpace, live_of}
 use Rattle.alta_search.specs.Answers.{answers_in}
 use Rattle.alta_dump.specs.Shown.{places_of, row_in}
 
--- ---- one place behind the other
-
-rises_push : (low : ℕ) (xs : List ℕ) (x : ℕ) → RisesAbove low xs → All (λ y. y < x) xs → low < x → x < TOP → RisesAbove low (xs ++ x ∷ [])
-rises_push low [] x rises below above top = (above, top, tt)
-rises_push low (y ∷ ys) x (a, b, rises) below above top =
-    (a, b, rises_push y ys x rises (All-tail (λ (z : ℕ). z < x) y ys below) (All-head (λ (z : ℕ). z < x) y ys below) top)
-
-rising_more : (xs : List ℕ) (x : ℕ) → IsRising xs → ((k : ℕ) → k < length xs → get_or xs k 0 < x) → 0 < x → x < TOP → IsRising (xs ++ x ∷ [])
-rising_more xs x rising below positive top =
-    rising_from_above (xs ++ x ∷ []) (rises_push 0 xs x (above_from_rising xs rising) (λ k d l. omega (arith, below k l, get_or_default xs k d 0 l)) positive top)
-
-pushed_below : (xs : List ℕ) (x : ℕ) → ((k : ℕ) → k < length xs → get_or xs k 0 < x) → (k : ℕ) → k < length (xs ++ x ∷ []) → get_or (xs ++ x ∷ []) k 0 < x + 1
-pushed_below [] x h zero l = omega arith
-pushed_below [] x h (suc k) l = absurd (omega (arith, l))
-pushed_below (y ∷ ys) x h zero l = omega (arith, h 0 (omega arith))
-pushed_below (y ∷ ys) x h (suc k) l = pushed_below ys x (λ j m. h (suc j) (omega (arith, m))) k (omega (arith, l))
-
--- behind places that rise so many more above them rise
-pub range_rising : (n first : ℕ) (xs : List ℕ) → IsRising xs → ((k : ℕ) → k < length xs → get_or xs k 0 < first) → 0 < first → first + n ≤ TOP → IsRising (xs ++ locations_from first n)
+-- places that follow each other, as the library has them
+pub range_is : (first n : ℕ) → range_with_len first n ≡ locations_from first n
 unfolding locations_from
-range_rising zero first xs rising below positive top = subst IsRising (sym (append-nil xs)) rising
-range_rising (suc n) first xs rising below positive top =
-    subst IsRising (append_assoc xs (first ∷ []) (locations_from (first + 1) n))
-    (range_rising n (first + 1) (xs ++ first ∷ []) (rising_more xs first rising below positive (omega (arith, top))) (pushed_below xs first below) (omega arith) (omega (arith, top)))
-
-pub locations_push : (first n : ℕ) → locations_from first (suc n) ≡ locations_from first n ++ (first + n) ∷ []
-unfolding locations_from
-locations_push first zero = ap (λ (x : ℕ). x ∷ []) (let e : first ≡ first + 0 = omega arith in e)
-locations_push first (suc n) =
-    ap (λ (xs : List ℕ). first ∷ xs)
-    (locations_push (first + 1) n ∙ ap (λ (x : ℕ). locations_from (first + 1) n ++ x ∷ []) (let e : first + 1 + n ≡ first + suc n = omega arith in e))
-
--- one place more of a range
-pub range_step : (first at next : ℕ) (old xs more : List ℕ) → first ≤ at → next ≡ at + 1 → xs ≡ old ++ locations_from first (at - first) → more ≡ xs ++ at ∷ []
-    → more ≡ old ++ locations_from first (next - first)
-range_step first at next old xs more le e so_far pushed =
-    let last : first + (at - first) ≡ at = omega (arith, le) in
-    let count : suc (at - first) ≡ next - first = omega (arith, le, e) in
-    pushed ∙ ap (λ (ys : List ℕ). ys ++ at ∷ []) so_far
-    ∙ append_assoc old (locations_from first (at - first)) (at ∷ [])
-    ∙ ap (λ (x : ℕ). old ++ (locations_from first (at - first) ++ x ∷ [])) (sym last)
-    ∙ ap (λ (ys : List ℕ). old ++ ys) (sym (locations_push first (at - first)))
-    ∙ ap (λ (n : ℕ). old ++ locations_from first n) count
-
-pub range_none : (first : ℕ) (old : List ℕ) → old ≡ old ++ locations_from first 0
-unfolding locations_from
-range_none first old = sym (append-nil old)
+range_is first zero = refl
+range_is first (suc n) = ap (λ (xs : List ℕ). first ∷ xs) (range_is (first + 1) n)
 
 -- ---- rows one behind the other
 

@@ -9,17 +9,17 @@ ghost use Rattle.alta_machine.specs.Cells.{cells_of};
 ghost use Rattle.alta_machine.specs.declared.kinds.TheConstants.{WORD as word_kind};
 
 use crate::texts::term_at;
-use alta_gather::Held;
+use alta_gather::{Held, PackedHeld};
 use alta_machine::kinds::{DOCUMENT_END, TITLE_END, WORD};
 use alta_machine::{Cell, MetaFault, cells};
 use alta_search::TermLists;
 use std::alloc::{AllocError, Global};
 
 /// Whether a list has the place.
-pub(crate) fn is_place(held: Held) -> bool
+pub(crate) fn is_place(held: PackedHeld) -> bool
     ensures { result ≡ is_held held }
 {
-    match held {
+    match held.unpack() {
         Held::Never => false,
         Held::Once(_) => true,
         Held::Often => true,
@@ -33,8 +33,8 @@ pub(crate) fn comes_again(
     name: &str,
     title: &str,
     body: &str,
-    words: &[Held],
-    titles: &[Held],
+    words: &[PackedHeld],
+    titles: &[PackedHeld],
 ) -> Result<bool, AllocError>
     requires titles { length titles.now ≡ length words.now }
     ensures { IfOk result (λ b. (seen : List (List (List ℕ))) → IsName name.now → list_all (is_word (terms_of terms.now)) words.now ≡ true → AreSeen (terms_of terms.now) words.now titles.now seen
@@ -48,7 +48,12 @@ pub(crate) fn comes_again(
 }
 
 // Whether the cells are those that were seen.
-fn are_alike(again: &[Cell], terms: &[TermLists], words: &[Held], titles: &[Held]) -> bool
+fn are_alike(
+    again: &[Cell],
+    terms: &[TermLists],
+    words: &[PackedHeld],
+    titles: &[PackedHeld],
+) -> bool
     requires few { All HasFewFoldings again.now }
     requires titles { length titles.now ≡ length words.now }
     ensures { (seen : List (List (List ℕ))) → list_all (is_word (terms_of terms.now)) words.now ≡ true → AreSeen (terms_of terms.now) words.now titles.now seen
@@ -75,7 +80,13 @@ fn is_last(count: usize, index: usize) -> bool
 }
 
 // Whether the cell is one that was seen so; a document ends at its last cell.
-fn is_alike(cell: &Cell, terms: &[TermLists], word: Held, title: Held, last: bool) -> bool
+fn is_alike(
+    cell: &Cell,
+    terms: &[TermLists],
+    word: PackedHeld,
+    title: PackedHeld,
+    last: bool,
+) -> bool
     requires { HasFewFoldings cell.now }
     ensures { (seen : List (List ℕ)) → AreFoldings (terms_of terms.now) word (of_kind word_kind seen) → is_held title ≡ ends_title seen → last ≡ ends_document seen
         → result ≡ lines.is_alike cell.now seen }
@@ -86,11 +97,11 @@ fn is_alike(cell: &Cell, terms: &[TermLists], word: Held, title: Held, last: boo
 }
 
 // Whether the cell, which has one folded word at most, has those that were seen.
-fn has_foldings(cell: &Cell, terms: &[TermLists], word: Held) -> bool
+fn has_foldings(cell: &Cell, terms: &[TermLists], word: PackedHeld) -> bool
     requires { HasFewFoldings cell.now }
     ensures { (seen : List (List ℕ)) → AreFoldings (terms_of terms.now) word (of_kind word_kind seen) → result ≡ lines.are_same (of_kind word_kind cell.now) (of_kind word_kind seen) }
 {
-    match word {
+    match word.unpack() {
         Held::Never => !cell.begins(&[WORD]),
         Held::Once(index) => cell.holds(term_at(terms, index as usize)),
         Held::Often => false,

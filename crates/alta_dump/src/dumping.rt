@@ -22,7 +22,7 @@ use crate::live::{live, places, row_at};
 use crate::rebuilding::line;
 use alta_codec::{Steps, Text};
 use alta_content::{AllRows, DocRow};
-use alta_gather::Held;
+use alta_gather::PackedHeld;
 use alta_search::{Snapshot, TermLists};
 use std::alloc::{AllocError, Global};
 use std::sync::ledger::Ledger;
@@ -31,8 +31,8 @@ use std::sync::ledger::Ledger;
 /// is skipped; and then how many lines there are. The snapshot is that of [`crate::dump_order`]. Each list is walked over once, with at
 /// most as many steps as the lists are and have locations. Fails for want of memory alone.
 ///
-/// The text is as long as the folded words of all documents; beside it the walks keep 24 bytes for each cell of a live document.
-/// A test with 2^32 terms counts as a want of memory.
+/// The text is as long as the folded words of all documents; beside it the walks keep 8 bytes for each cell of a live document,
+/// and at most 48 for each of these documents. A test with 2^32 - 1 terms counts as a want of memory.
 pub fn dump<L: Ledger>(
     alloc: Global,
     snapshot: &Snapshot,
@@ -61,8 +61,8 @@ fn written(
     rows: &AllRows,
     live: &[usize],
     terms: &[TermLists],
-    words: &[Held],
-    titles: &[Held],
+    words: &[PackedHeld],
+    titles: &[PackedHeld],
 ) -> Result<String, AllocError>
     requires rising { IsRising (ends_of rows.now) }
     requires live { All (λ i. i < length rows.now) live.now }
@@ -91,8 +91,8 @@ fn put_documents(
     rows: &AllRows,
     live: &[usize],
     terms: &[TermLists],
-    words: &[Held],
-    titles: &[Held],
+    words: &[PackedHeld],
+    titles: &[PackedHeld],
 ) -> Result<u64, AllocError>
     requires empty { string_bytes text.old ≡ [] }
     requires rising { IsRising (ends_of rows.now) }
@@ -122,8 +122,8 @@ fn put_document(
     alloc: Global,
     row: &DocRow,
     terms: &[TermLists],
-    words: &[Held],
-    titles: &[Held],
+    words: &[PackedHeld],
+    titles: &[PackedHeld],
 ) -> Result<u64, AllocError>
     requires { length titles.now ≡ length words.now }
     ensures line { IfOk result (λ count. (d : Document) → d.number ≡ row.now.number → d.name ≡ row.now.name → IsName d.name → AreSeen (terms_of terms.now) words.now titles.now d.cells

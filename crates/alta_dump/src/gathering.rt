@@ -6,20 +6,19 @@ ghost use Rattle.alta_gather.specs.Holding.{IsMarked, held_in};
 ghost use Rattle.alta_gather.specs.declared.held.Held.{Held};
 ghost use Rattle.alta_search.specs.Lists.{IsCut, count_lists, count_locations, term_lists};
 
-use alta_codec::{Loc, Steps};
-use alta_gather::{Held, mark};
+use alta_codec::Steps;
+use alta_gather::{ListIndex, PackedHeld, Places, mark};
 use alta_search::{TermLists, chain};
 use std::alloc::{AllocError, Global};
 use std::sync::ledger::Ledger;
 
-/// Which of these terms stand at each of these places, which rise, by one walk over the lists of each term. A term counts by its index.
+/// Which of these terms stand at each of these places, by one walk over the lists of each term. A term counts by its index.
 pub(crate) fn gather<L: Ledger>(
     alloc: Global,
-    places: &[Loc],
+    places: &Places,
     terms: &[TermLists],
     steps: &mut Steps<L>,
-) -> Result<Vec<Held>, AllocError>
-    requires places { IsRising places.now }
+) -> Result<Vec<PackedHeld>, AllocError>
     requires cut { IsCut (map term_lists terms.now) }
     ensures held { IfOk result (λ held. held.items ≡ map (held_in (map concat (map term_lists terms.now))) places.now) }
     ensures steps { steps.new ≤ steps.old + (count_lists (map term_lists terms.now) + count_locations (map term_lists terms.now)) }
@@ -32,34 +31,33 @@ pub(crate) fn gather<L: Ledger>(
     Ok(held)
 }
 
-// The index of a term in 32 bits, of which more terms than memory holds would be wanting.
-fn index_of(index: usize) -> Result<u32, AllocError>
+// The index of a term as the index of a list, of which more terms than memory holds would be wanting.
+fn index_of(index: usize) -> Result<ListIndex, AllocError>
     ensures { IfOk result (λ i. i ≡ index) }
 {
-    match u32::try_from(index) {
-        Ok(index) => Ok(index),
-        Err(_) => Err(AllocError),
+    match ListIndex::new(index) {
+        Some(index) => Ok(index),
+        None => Err(AllocError),
     }
 }
 
 // So many places at which no term stands.
-fn never(alloc: Global, count: usize) -> Result<Vec<Held>, AllocError>
+fn never(alloc: Global, count: usize) -> Result<Vec<PackedHeld>, AllocError>
     ensures long { IfOk result (λ held. length held.items ≡ count) }
     ensures never { IfOk result (λ held. All (λ h. h ≡ Held.Never) held.items) }
 {
-    vec![in alloc; Held::Never; count]
+    vec![in alloc; PackedHeld::never(); count]
 }
 
 // Marks the places of a term, which has this index, by one walk over its lists.
 fn walk<L: Ledger>(
     alloc: Global,
-    held: &mut [Held],
-    places: &[Loc],
+    held: &mut [PackedHeld],
+    places: &Places,
     term: &TermLists,
-    index: u32,
+    index: ListIndex,
     steps: &mut Steps<L>,
 ) -> Result<(), AllocError>
-    requires places { IsRising places.now }
     requires paired { length held.old ≡ length places.now }
     requires rising { IsRising (concat (term_lists term.now)) }
     ensures marked { OnOk result (IsMarked places.now (concat (term_lists term.now)) index held.old held.new) }
@@ -71,7 +69,7 @@ fn walk<L: Ledger>(
 }
 
 /// So many of them, from an index on, or as many as there are.
-pub(crate) fn some_from(held: &[Held], from: usize, count: u64) -> &[Held]
+pub(crate) fn some_from(held: &[PackedHeld], from: usize, count: u64) -> &[PackedHeld]
     ensures { result.now ≡ take count (drop from held.now) }
 {
     let behind = &held[from.min(held.len())..];

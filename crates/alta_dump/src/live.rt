@@ -16,6 +16,7 @@ ghost use Rattle.alta_search.specs.Words.{IsSoundTerm, term_left, term_list, ter
 
 use alta_codec::{Loc, Steps, TOP};
 use alta_content::{AllRows, DocRow, RowWalk};
+use alta_gather::Places;
 use alta_reader::Reader;
 use alta_search::{Snapshot, TermLists, TermReader, chain, live_row};
 use std::alloc::{AllocError, Global};
@@ -122,57 +123,23 @@ pub(crate) fn row_at<'a>(rows: &'a AllRows, live: &[usize], i: usize) -> &'a Doc
 }
 
 /// The places of the cells of these rows, in order. A place that is not above those before is left out; rows that rise have none.
-pub(crate) fn places(alloc: Global, rows: &AllRows, live: &[usize]) -> Result<Vec<Loc>, AllocError>
+pub(crate) fn places(alloc: Global, rows: &AllRows, live: &[usize]) -> Result<Places, AllocError>
     requires rising { IsRising (ends_of rows.now) }
     requires inside { All (λ i. i < length rows.now) live.now }
-    ensures rising { IfOk result (λ places. IsRising places.items) }
-    ensures exact { IfOk result (λ places. RowsRise (rows_at rows.now live.now) → places.items ≡ places_of (rows_at rows.now live.now)) }
+    ensures { IfOk result (λ places. RowsRise (rows_at rows.now live.now) → places ≡ places_of (rows_at rows.now live.now)) }
 {
-    let mut places = Vec::new(alloc);
+    let mut places = Places::new(alloc);
     'live: for i in 0..live.len() {
-        put_places(&mut places, row_at(rows, live, i))?;
+        places = with_row(places, row_at(rows, live, i))?;
     }
     Ok(places)
 }
 
-// Adds the places of a row that are above those before.
-fn put_places(places: &mut Vec<Loc>, row: &DocRow) -> Result<(), AllocError>
-    requires rising { IsRising places.old.items }
-    requires below { end_of row.now < TOP }
-    ensures rising { OnOk result (IsRising places.new.items) }
-    ensures exact { OnOk result (1 ≤ row.now.first → All (λ p. p < row.now.first) places.old.items → places.new.items ≡ places.old.items ++ locations_from row.now.first row.now.cells) }
+// These places, and those of a row that are above them.
+fn with_row(places: Places, row: &DocRow) -> Result<Places, AllocError>
+    requires { end_of row.now < TOP }
+    ensures { IfOk result (λ more. 1 ≤ row.now.first → All (λ p. p < row.now.first) places → more ≡ places ++ locations_from row.now.first row.now.cells) }
 {
-    let first = row.first.max(above(places));
-    put_range(places, first, row.first + row.cells)?;
-    Ok(())
-}
-
-// The first place above all of these.
-fn above(places: &[Loc]) -> Loc
-    requires { IsRising places.now }
-    ensures above { (k : ℕ) → k < length places.now → slice_index places.now k < result }
-    ensures positive { 1 ≤ result }
-    ensures least { (x : ℕ) → 1 ≤ x → All (λ p. p < x) places.now → result ≤ x }
-    ensures top { result ≤ TOP }
-{
-    match places.last() {
-        Some(last) => *last + 1,
-        None => 1,
-    }
-}
-
-// Adds the places from the first to before the end, which are above those before.
-fn put_range(places: &mut Vec<Loc>, first: Loc, end: Loc) -> Result<(), AllocError>
-    requires rising { IsRising places.old.items }
-    requires above { (k : ℕ) → k < length places.old.items → slice_index places.old.items k < first }
-    requires positive { 1 ≤ first }
-    requires first { first ≤ TOP }
-    requires end { end ≤ TOP }
-    ensures rising { OnOk result (IsRising places.new.items) }
-    ensures all { OnOk result (places.new.items ≡ places.old.items ++ locations_from first (end - first)) }
-{
-    for at in first..end {
-        places.push(at)?;
-    }
-    Ok(())
+    let more = places.with(row.first, row.first + row.cells)?;
+    Ok(more)
 }

@@ -12,7 +12,7 @@ ghost use Rattle.alta_machine.specs.declared.line.TheConstants.{LINE_LIMIT as li
 
 use crate::alike::{comes_again, is_place};
 use crate::texts::{are_words, text};
-use alta_gather::Held;
+use alta_gather::PackedHeld;
 use alta_machine::LINE_LIMIT;
 use alta_search::TermLists;
 use std::alloc::{AllocError, Global};
@@ -24,8 +24,8 @@ pub(crate) fn line(
     alloc: Global,
     terms: &[TermLists],
     name: &str,
-    words: &[Held],
-    titles: &[Held],
+    words: &[PackedHeld],
+    titles: &[PackedHeld],
 ) -> Result<Option<String>, AllocError>
     requires titles { length titles.now ≡ length words.now }
     ensures line { (d : Document) → d.name ≡ name.now → IsName d.name → AreSeen (terms_of terms.now) words.now titles.now d.cells → IfOk result (λ line. option_map string_bytes line ≡ line_of d) }
@@ -42,8 +42,8 @@ fn line_at(
     alloc: Global,
     terms: &[TermLists],
     name: &str,
-    words: &[Held],
-    titles: &[Held],
+    words: &[PackedHeld],
+    titles: &[PackedHeld],
     place: usize,
 ) -> Result<Option<String>, AllocError>
     requires titles { length titles.now ≡ length words.now }
@@ -64,8 +64,8 @@ fn line_with(
     name: &str,
     title: &str,
     body: &str,
-    words: &[Held],
-    titles: &[Held],
+    words: &[PackedHeld],
+    titles: &[PackedHeld],
 ) -> Result<Option<String>, AllocError>
     requires { length titles.now ≡ length words.now }
     ensures line { (d : Document) → IsRebuiltFrom (terms_of terms.now) name.now words.now titles.now d → title.now ≡ title_text d.cells → body.now ≡ body_text d.cells
@@ -101,7 +101,7 @@ fn has_tab(text: &str) -> bool
 }
 
 // The place of the cell that ends the title, if the document is plain.
-fn plain_place(terms: &[TermLists], words: &[Held], titles: &[Held]) -> Option<usize>
+fn plain_place(terms: &[TermLists], words: &[PackedHeld], titles: &[PackedHeld]) -> Option<usize>
     ensures plain { (cells : List (List (List ℕ))) → AreFolded (terms_of terms.now) words.now cells → map is_held titles.now ≡ map ends_title cells
         → MatchOption result (is_plain cells ≡ false) (λ place. (is_plain cells ≡ true) × IsTitlePlace place cells) }
     ensures within { IfSome result (λ place. (0 < place) × (place + 1 < length titles.now)) }
@@ -123,14 +123,14 @@ fn plain_place(terms: &[TermLists], words: &[Held], titles: &[Held]) -> Option<u
 }
 
 // At how many places a title ends.
-fn count_places(titles: &[Held]) -> usize
+fn count_places(titles: &[PackedHeld]) -> usize
     ensures { result ≡ count_by is_held titles.now }
 {
     titles.iter().filter(|held| is_place(**held)).count()
 }
 
 // The first place where a title ends.
-fn title_place(titles: &[Held]) -> Option<usize>
+fn title_place(titles: &[PackedHeld]) -> Option<usize>
     ensures value { result ≡ position is_held titles.now }
     ensures within { IfSome result (λ place. place < length titles.now) }
 {

@@ -5,7 +5,7 @@ ghost use Rattle.std.specs.Str.{is_utf8};
 ghost use Rattle.alta_machine.specs.Plain.{rest_of};
 ghost use Rattle.alta_dump.specs.Seen.{is_word, terms_of, text_seen, word_at};
 
-use alta_gather::Held;
+use alta_gather::{Held, PackedHeld};
 use alta_search::TermLists;
 use std::alloc::{AllocError, Global};
 use std::str::from_utf8;
@@ -15,14 +15,14 @@ const TOO_LONG: &str =
     "xxxxxxxxxxxxxxxxxxxxxxxxxxxxxxxxxxxxxxxxxxxxxxxxxxxxxxxxxxxxxxxxxxxxxxxxxxxxxxxxxxxxxxxxxxxxxxxxxxxxxxxxxxxxxxxxxxxxxxxxxxxxxxxxx";
 
 /// Whether each cell has one folded word at most, and that is text.
-pub(crate) fn are_words(terms: &[TermLists], words: &[Held]) -> bool
+pub(crate) fn are_words(terms: &[TermLists], words: &[PackedHeld]) -> bool
     ensures { result ≡ list_all (is_word (terms_of terms.now)) words.now }
 {
     words.iter().all(|held| is_fine(terms, *held))
 }
 
 // Whether the cell has.
-fn is_fine(terms: &[TermLists], held: Held) -> bool
+fn is_fine(terms: &[TermLists], held: PackedHeld) -> bool
     ensures { result ≡ is_word (terms_of terms.now) held }
 {
     match word(terms, held) {
@@ -32,7 +32,11 @@ fn is_fine(terms: &[TermLists], held: Held) -> bool
 }
 
 /// The words of cells, with a space between each two.
-pub(crate) fn text(alloc: Global, terms: &[TermLists], words: &[Held]) -> Result<String, AllocError>
+pub(crate) fn text(
+    alloc: Global,
+    terms: &[TermLists],
+    words: &[PackedHeld],
+) -> Result<String, AllocError>
     ensures { IfOk result (λ text. list_all (is_word (terms_of terms.now)) words.now ≡ true → string_bytes text ≡ text_seen (terms_of terms.now) words.now) }
 {
     let mut text = String::new(alloc);
@@ -47,7 +51,7 @@ fn put_word(
     text: &mut String,
     first: bool,
     terms: &[TermLists],
-    held: Held,
+    held: PackedHeld,
 ) -> Result<(), AllocError>
     ensures { OnOk result (is_word (terms_of terms.now) held ≡ true → string_bytes text.new ≡ string_bytes text.old ++ (if first then word_at (terms_of terms.now) held else 32 ∷ word_at (terms_of terms.now) held)) }
 {
@@ -69,10 +73,10 @@ fn put_spaced(text: &mut String, first: bool, word: &str) -> Result<(), AllocErr
 }
 
 // The word of a cell, if it is one at most, and text.
-fn word(terms: &[TermLists], held: Held) -> Option<&str>
+fn word(terms: &[TermLists], held: PackedHeld) -> Option<&str>
     ensures { MatchOption result (is_word (terms_of terms.now) held ≡ false) (λ word. (is_word (terms_of terms.now) held ≡ true) × (word.now ≡ word_at (terms_of terms.now) held)) }
 {
-    match held {
+    match held.unpack() {
         Held::Never => Some(TOO_LONG),
         Held::Once(index) => text_of(rest_at(terms, index as usize)),
         Held::Often => None,

@@ -95,12 +95,9 @@ others_differ places place i at rising within here lt other = λ e.
     (λ apart. ⊎_elim (λ low. omega (arith, rising.rising i place low within, here, e)) (λ high. omega (arith, rising.rising place i high lt, here, e)) apart)
     (cases_order i place)
 
--- the location is none of the places
-pub none_is : (places : List ℕ) (place i at : ℕ) → IsRising places → ((k : ℕ) → k < place → get_or places k 0 < at) → (place < length places → at < get_or places place 0) → i < length places → get_or places i 0 ≢ at
-none_is places place i at rising before behind lt = λ e.
-    ⊎_elim (λ same. omega (arith, e, behind (omega arith), ap (λ n. get_or places n 0) same))
-    (λ apart. ⊎_elim (λ low. omega (arith, e, before i low)) (λ high. omega (arith, e, behind (omega arith), rising.rising place i high lt)) apart)
-    (cases_order i place)
+-- none of the places is the location
+pub not_noted : (places : List ℕ) (held : List Held) (at index : ℕ) → ((i : ℕ) → i < length places → get_or places i 0 ≢ at) → Noted places at index held held
+not_noted places held at index apart = λ i d lt. sym (cond-false (eqb (get_or places i 0) at) (with_list index (get_or held i d)) (get_or held i d) (ne_eqb (get_or places i 0) at (apart i lt)))
 
 same_default : (xs : List Held) (i : ℕ) (d e : Held) → i < length xs → get_or xs i d ≡ get_or xs i e
 same_default [] i d e lt = absurd (omega (arith, lt))

@@ -3,6 +3,10 @@
 
 mod gathering;
 mod held;
+mod packed;
+mod places;
 
 pub use gathering::mark;
 pub use held::Held;
+pub use packed::{ListIndex, PackedHeld};
+pub use places::Places;

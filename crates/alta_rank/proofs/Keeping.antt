@@ -4,14 +4,16 @@ use Rattle.std.proofs.Math.Seq.{take-append_seam}
 use Rattle.std.specs.Prelude.{Contains, All, AllPairs, Option, Some, None, IsSome, IfSome, sum_by}
 use Rattle.std.specs.Cmp.{IsTotalOrder, IsStrictWeakOrder}
 use Rattle.std.specs.Cmp.Rules.{comparing}
+use Rattle.std.specs.List.{list_any}
 use Rattle.std.specs.List.Sorted.{IsPermutation, IsSortedBy}
 use Rattle.std.specs.Ordering.{is_lt}
-use Rattle.std.proofs.lemmas.Bool.{cases_lt}
+use Rattle.std.proofs.lemmas.Bool.{cases_lt, ltb-true, lt-ltb, le-ltb, or_from, or_left, or_right}
 use Rattle.std.proofs.lemmas.List.{get_or-map, get_or_default, length-map, take_all, append-nil}
 use Rattle.std.proofs.lemmas.List.Elements.{All-contains, Contains-append_cases}
 use Rattle.std.proofs.lemmas.List.Sorted.{ranks_by, sorted_far, Contains-permutation, IsPermutation-refl, IsPermutation-sym, IsPermutation-trans, IsPermutation-cons, IsPermutation-append_left, IsPermutation-append_right, IsPermutation-middle, IsPermutation-to_front, length_permutation, sum_by-IsPermutation}
+use Rattle.std.proofs.lemmas.List.Folds.{list_any_at, list_any_none}
 use Rattle.std.proofs.lemmas.List.Sums.{sum_by-cons}
-use Rattle.alta_rank.specs.Kept.{Replaces, left_out, taken_in, Keeps, joined, replaced, IsBest}
+use Rattle.alta_rank.specs.Kept.{Replaces, left_out, taken_in, Keeps, joined, replaced, IsBest, has_place}
 use Rattle.alta_machine.specs.Ranked.{by_rank, number_of, placed, ranked}
 use Rattle.alta_machine.specs.declared.scored.Scored.{Scored}
 
@@ -336,3 +338,41 @@ after_number a last e h = grind (arith, e, h)
 pub best-none_kept : (count : ℕ) (every kept : List Scored) (a : Scored) → IsBest count every kept → count ≤ length kept → (0 < length kept → ⊥)
     → IsBest count (every ++ a ∷ []) kept
 best-none_kept count every kept a best full none = leaves count every kept a best full (λ k d l. absurd (none (omega (arith, l))))
+
+-- it comes before the last where its score is greater, or the same and its number lesser
+pub before_score : (a last : Scored) → last.score < a.score → lt a last ≡ true
+before_score a last l = grind (arith, l)
+
+pub before_number : (a last : Scored) → last.score ≡ a.score → a.number < last.number → lt a last ≡ true
+before_number a last e l = grind (arith, e, l)
+
+module _ (count number score : ℕ) (kept : List Scored) where
+  abbrev answer : Scored
+  answer = record { number = number; name = []; score = score }
+
+  -- an answer has a place where fewer are kept than may be
+  pub place_free : length kept < count → has_place (record { count = count; kept = kept }) number score ≡ true
+  place_free room = or_left (ltb (length kept) count) (list_any (lt answer) kept) (lt-ltb (length kept) count room)
+
+  -- or where it comes before the last of them
+  pub place_of_last : (last : Scored) → 0 < length kept → last ≡ get_or kept 0 last → lt answer last ≡ true → has_place (record { count = count; kept = kept }) number score ≡ true
+  place_of_last last some first before =
+      or_right (ltb (length kept) count) (list_any (lt answer) kept) (list_any_at (lt answer) kept 0 last some (subst (λ (b : Scored). lt answer b ≡ true) first before))
+
+  -- and nowhere else
+  pub no_place : (last : Scored) → count ≤ length kept → lt answer last ≡ false → All (λ b. lt last b ≡ false) kept → has_place (record { count = count; kept = kept }) number score ≡ false
+  no_place last full after least =
+      or_from (ltb (length kept) count) (list_any (lt answer) kept) (le-ltb (length kept) count full)
+      (list_any_none (lt answer) kept (λ k d l. order.chain answer last (get_or kept k d) after (least k d l)))
+
+  pub no_place_for_none : count ≤ length kept → (0 < length kept → ⊥) → has_place (record { count = count; kept = kept }) number score ≡ false
+  no_place_for_none full none =
+      or_from (ltb (length kept) count) (list_any (lt answer) kept) (le-ltb (length kept) count full) (list_any_none (lt answer) kept (λ k d l. absurd (none (omega (arith, l)))))
+
+  -- of the same score, it is decided by the numbers
+  pub place_by_number : (last : Scored) → 0 < length kept → count ≤ length kept → last ≡ get_or kept 0 last → last.score ≡ score → All (λ b. lt last b ≡ false) kept
+      → ltb number last.number ≡ has_place (record { count = count; kept = kept }) number score
+  place_by_number last some full first same least = ⊎_elim
+      (λ before. before ∙ sym (place_of_last last some first (before_number answer last same (ltb-true number last.number before))))
+      (λ behind. behind ∙ sym (no_place last full (after_number answer last same behind) least))
+      (true_or_false (ltb number last.number))

@@ -1,5 +1,6 @@
 -- What is kept of the best answers and one more, and which answers are the best.
-use Rattle.std.specs.Prelude.{◌≡◌, ℕ, ◌<◌, ◌≤◌, min, List, ◌∷◌, ◌++◌, length, All, Contains, true, false}
+use Rattle.std.specs.Prelude.{◌≡◌, ℕ, ◌<◌, ◌≤◌, Bool, ◌||◌, nat_lt, min, List, [], ◌∷◌, ◌++◌, length, All, Contains, true, false}
+use Rattle.std.specs.List.{list_any}
 use Rattle.std.specs.List.Sorted.{IsPermutation}
 use Rattle.std.specs.Ordering.{is_lt}
 use Rattle.alta_machine.specs.Ranked.{by_rank}
@@ -20,6 +21,11 @@ pub data Keeps (count : ℕ) (old : List Scored) (answer : Scored) (new : List S
 pub record KeptOf : Type 0 where
   pub count : ℕ
   pub kept : List Scored
+
+-- whether an answer of this number and score would be kept: fewer are than may be, or it comes before one of those
+abbrev pub has_place : KeptOf → ℕ → ℕ → Bool
+has_place best number score =
+    nat_lt (length best.kept) best.count || list_any (λ b. is_lt (by_rank (record { number = number; name = []; score = score }) b)) best.kept
 
 -- These are the first `count` of all: there are no more, and none of those that were dropped comes before one of them.
 pub record IsBest (count : ℕ) (every kept : List Scored) : Type 0 where

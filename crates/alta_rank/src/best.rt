@@ -3,7 +3,7 @@
 // heap's order is turned round, so its greatest element is the one that comes last.
 ghost use Rattle.std.specs.BinaryHeap.{IsHeap, heap_items};
 ghost use Rattle.std.specs.Prelude.{◌≡◌, ◌≢◌, ◌∷◌, ◌++◌, ℕ, [], List, take, map, false, OnOk, AllPairs};
-ghost use Rattle.alta_rank.specs.Kept.{IsBest, Keeps, Replaces};
+ghost use Rattle.alta_rank.specs.Kept.{IsBest, Keeps, Replaces, has_place};
 ghost use Rattle.alta_machine.specs.Ranked.{by_rank, ranked, number_of};
 ghost use Rattle.alta_machine.specs.declared.scored.Scored.{Scored};
 
@@ -43,10 +43,11 @@ impl Best {
         }
     }
 
-    /// Whether an answer of this number and score would be kept: fewer are kept than may be, or it comes before the last of
-    /// those. Where it would not, those that are kept are also the first with it.
+    /// Whether an answer of this number and score would be kept: fewer are kept than may be, or it comes before one of those. Where
+    /// it would not, those that are kept are also the first with it.
     pub fn has_place(&self, number: u64, score: u64) -> bool
-        ensures { result ≡ false → (every : List Scored) (name : List ℕ) → IsBest self.now.count every self.now.kept
+        ensures place { result ≡ has_place self.now number score }
+        ensures left_out { result ≡ false → (every : List Scored) (name : List ℕ) → IsBest self.now.count every self.now.kept
             → IsBest self.now.count (every ++ record { number = number; name = name; score = score } ∷ []) self.now.kept }
     {
         if (self.kept.len() as u64) < self.count {

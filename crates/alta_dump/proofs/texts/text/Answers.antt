@@ -6,4 +6,4 @@ use Rattle.alta_dump.proofs.texts.text.Goals as goal
 
 pub loop-i-preserved : goal.loop-i-preserved
 loop-i-preserved c =
-    text_step (terms_of c.args.terms.now) c.args.words.now c.loop-i.i _ (string_bytes c.loop-i.text) (string_bytes c.put_word.new.text) (omega arith) c.loop-i.invariant c.in_ok-put_word.ensures
+    text_step (terms_of c.args.terms.now) c.args.words.now c.loop-i.i _ c.index-words-i.result (string_bytes c.loop-i.text) (string_bytes c.put_word.new.text) (omega arith) c.index-words-i.is c.loop-i.invariant c.in_ok-put_word.ensures
