@@ -63,7 +63,7 @@ PICTURED = {
     "library": "a common word",
     "chess": "a rare word",
     "python AND library": "both words",
-    "library NOT development": "one without another",
+    "library NOT development": "without one",
     "python OR perl": "either word",
     '"shared library"': "a phrase",
     "data NEAR/5 library": "near words",
