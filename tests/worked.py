@@ -436,15 +436,55 @@ def earlier(index):
         compare(row, file.run("stats"), [f"documents {documents} words {words} next {number}"])
 
 
+# Names that have one hash in the program's table of names, by FoldHasher of the kit: which of them came first is found by the hash, and
+# the other by its text.
+ONE_HASH = (("obibhlbbdjfdeeoe", "gchcbilndmmgbplg"), ("lhcaphbohlkckfam", "njojhhhphnjemccn"))
+
+# What comes behind the adds of both as documents 1 and 2, and the numbers of the first and the second then, 0 where it is gone.
+SHARED = """\
+stats => 1 2
+flush => 1 2
+delete 1 => 0 2
+flush, delete 1 => 0 2
+delete 2 => 1 0
+flush, delete 2 => 1 0
+delete 1, add 1 => 3 2
+flush, delete 1, flush, add 1 => 3 2
+delete 2, add 2 => 1 3
+flush, delete 2, add 2, merge => 1 3
+add 1 => 3 2
+flush, add 2, merge => 1 3
+delete 1, delete 2, add 2, add 1 => 4 3
+flush, delete 1, add 2, merge, add 1 => 4 3
+"""
+
+
+def one_hash(index):
+    for pair in ONE_HASH:
+        for row in SHARED.splitlines():
+            acts, want = row.split(" => ")
+            file = index()
+            lines = [f"add {name}\ttitle\ttext" for name in pair]
+            for act in acts.split(", "):
+                word, name = act.split(" ")[0], pair[int(act[-1]) - 1] if act[-1].isdigit() else ""
+                lines.append({"add": f"add {name}\ttitle\ttext", "delete": f"delete {name}"}.get(word, word))
+            numbers = dict(zip(pair, map(int, want.split(" "))))
+            found = [f"{number} {name}" for number, name in sorted((number, name) for name, number in numbers.items() if number)]
+            compare(row, file.run(*lines, "search text")[-len(found) - 1 : -1], found)
+            compare(row, file.run("search text")[:-1], found)
+            again = file.run(*[f"add {name}\ttitle\ttext" for name in pair])
+            compare(row, [reply.rsplit(" ", 1)[0] for reply in again], [f"replaced {numbers[name]} by" if numbers[name] else "added" for name in pair])
+
+
 def main():
     parser = argparse.ArgumentParser()
     parser.add_argument("--program", default="./alta")
     program = os.path.abspath(parser.parse_args().program)
     with tempfile.TemporaryDirectory() as folder:
         make = lambda content=None: Index(program, folder, content)
-        for part in (answers, best, many, over_levels, one_document, flushes, joins, raised, earlier):
+        for part in (answers, best, many, over_levels, one_document, flushes, joins, raised, earlier, one_hash):
             part(make)
-    tables = (ANSWERS.splitlines(), BEST.splitlines(), OF_MANY.splitlines(), OVER_LEVELS.splitlines(), JOINS, RAISES.splitlines())
+    tables = (ANSWERS.splitlines(), BEST.splitlines(), OF_MANY.splitlines(), OVER_LEVELS.splitlines(), JOINS, RAISES.splitlines(), SHARED.splitlines())
     print(f"worked: {sum(map(len, tables))} rows")
 
 

@@ -1,10 +1,9 @@
 -- What a catalog keeps, as documents come and go.
 use Rattle.std.proofs.Common.{◌≡◌, ◌⊎◌, ⊎_elim, ℕ, ◌+◌, ◌-◌, ◌<◌, ◌≤◌, true, false, IsTrue, Global, List, [], ◌∷◌, ◌++◌, length, get_or, map, append_assoc, not, refl, sym, ◌∙◌, ap, subst, arith, length-append}
-use Rattle.std.specs.Prelude.{◌==◌, ◌↔◌, Contains, IsUtf8, IfSome, Option, Some, None, Vec}
+use Rattle.std.specs.Prelude.{◌==◌, ◌↔◌, Contains, IsUtf8, IfSome, IfNone, Option, Some, None, Vec, is_some}
 use Rattle.std.specs.List.{All, filter, sum_by}
 use Rattle.std.specs.Map.{update}
 use Rattle.std.specs.Str.{bytes_eq}
-use Rattle.std.specs.HashMap.{get_by_text}
 use Rattle.std.proofs.lemmas.Bool.{false≢true}
 use Rattle.std.proofs.lemmas.List.{map-append}
 use Rattle.std.proofs.lemmas.List.Elements.{All-push, All-map, All-contains, Contains-append_left, Contains-get_or}
@@ -20,8 +19,8 @@ use Rattle.alta_memlevel.specs.Documents.{IsBefore, IsMade, document_in}
 use Rattle.alta_machine.specs.Cells.{cells_of}
 use Rattle.alta_machine.specs.declared.document.Document.{Document}
 use Rattle.alta_machine.specs.declared.document.State.{State}
-use Rattle.alta_catalog.specs.Knowing.{AreFound, AreNumbered, AreParts, Knows, KnowsBy, Notes, documents_of}
-use Rattle.alta_meaning.specs.Names.{NameMap}
+use Rattle.alta_catalog.specs.Knowing.{AreFound, AreNumbered, AreParts, Knows, KnowsBy, Notes, documents_of, numbers_in}
+use Rattle.alta_names.specs.Names.{Fits, Numbers, likely_of}
 use Rattle.alta_catalog.specs.Rows.{AreRowsOf, documents_left}
 use Rattle.alta_catalog.specs.Finding.{AreOther, FollowOn}
 use Rattle.alta_meaning.specs.Opened.{table_rows}
@@ -33,11 +32,11 @@ use Rattle.alta_catalog.proofs.SharingLaws.{space_ends, space_precedes}
 use Rattle.alta_catalog.proofs.StartLaws.{row_of}
 use Rattle.alta_table.specs.Tables.{Tables}
 use Rattle.alta_catalog.proofs.SpaceLaws.{left_append, ordered_long, space_push, words_fit}
-use Rattle.alta_machine.specs.Changes.{has_name, has_number, has_number_in, with_added, with_deleted, without, word_count, words_in}
+use Rattle.alta_machine.specs.Changes.{has_name, has_number, has_number_in, number_of, with_added, with_deleted, without, word_count, words_in}
 use Rattle.alta_catalog.specs.declared.catalog.Catalog.{Catalog}
-use Rattle.alta_meaning.proofs.Tests.{equal_from}
+use Rattle.alta_meaning.proofs.Tests.{by_test, equal_from}
 use Rattle.alta_catalog.proofs.EndLaws.{IsSame, all_same, among, among_more, has_number_of, here_or_there, is_left, left_more, left_out, no_member, none_with, not_among, there, numbered_more, one_fewer, one_less, space_all}
-use Rattle.alta_catalog.proofs.NotingLaws.{deleted_is, is_named, is_numbered, notes_deleted, notes_more}
+use Rattle.alta_catalog.proofs.NotingLaws.{deleted_is, found_in, is_named, is_numbered, names_there, notes_deleted, notes_more, only_name}
 use Rattle.alta_content.proofs.Elements.{all_right}
 use Rattle.alta_meaning.specs.Known.{known_of}
 use Rattle.alta_meaning.proofs.KnownLaws.{ordered_allowed}
@@ -52,11 +51,10 @@ rows_of_all c s f =
     ∙ ap (λ (rs : List DocRow). table_rows c.levels.items ++ rs) (sym f.content.documents)
 
 -- the shared rows of the levels, and more behind them, are all rows
-pub shared_behind : (c : Catalog) (rows more all : List (Rc LevelRows Global)) → rows_of_levels (map shared_rows all) ≡ rows_of_levels (map shared_rows rows) ++ rows_of_levels (map shared_rows more)
-    → map shared_rows rows ≡ map documents_of c.levels.items → rows_of_levels (map shared_rows more) ≡ c.memory.content.documents → rows_of_levels (map shared_rows all) ≡ table_rows c.levels.items ++ c.memory.content.documents
-shared_behind c rows more all are shared newest =
-    are
-    ∙ ap (λ (rs : List DocRow). rs ++ rows_of_levels (map shared_rows more)) (ap rows_of_levels shared ∙ flat_map-map (λ (rs : List DocRow). rs) documents_of c.levels.items)
+pub shared_behind : (c : Catalog) (rows more : List (Rc LevelRows Global)) → map shared_rows rows ≡ map documents_of c.levels.items → rows_of_levels (map shared_rows more) ≡ c.memory.content.documents
+    → rows_of_levels (map shared_rows rows) ++ rows_of_levels (map shared_rows more) ≡ table_rows c.levels.items ++ c.memory.content.documents
+shared_behind c rows more shared newest =
+    ap (λ (rs : List DocRow). rs ++ rows_of_levels (map shared_rows more)) (ap rows_of_levels shared ∙ flat_map-map (λ (rs : List DocRow). rs) documents_of c.levels.items)
     ∙ ap (λ (rs : List DocRow). table_rows c.levels.items ++ rs) newest
 
 -- and rise, and so do their ends
@@ -76,10 +74,10 @@ parts_are c s f = record {
 }
 
 -- each document is found by its name
-found_by : (known : NameMap) (ds : List Document) (d : Document) → AreFound known ds → Contains ds d → get_by_text known d.name ≡ Some d.number
+found_by : (known : Numbers) (ds : List Document) (d : Document) → AreFound known ds → Contains ds d → known d.name ≡ Some d.number
 found_by known [] d found has = absurd (no_member d has)
 found_by known (e ∷ ds) d found has =
-    ⊎_elim (λ (same : e ≡ d). subst (λ (x : Document). get_by_text known x.name ≡ Some x.number) same found.0)
+    ⊎_elim (λ (same : e ≡ d). subst (λ (x : Document). known x.name ≡ Some x.number) same found.0)
     (λ behind. found_by known ds d found.1 behind)
     (here_or_there e ds d has)
 
@@ -209,7 +207,7 @@ module _ (c : Catalog) (s : State) (f : Knows c s) where
 
     pub knows_added : IsTrue new.memory.sound
         → ((added : List Added) → HasContent added c.memory.content → HasContent (added ++ record { row = row; cells = cells } ∷ []) new.memory.content)
-        → ((q : List ℕ) → get_by_text new.names q ≡ update bytes_eq (get_by_text c.names) name (Some c.next) q)
+        → Fits new.names (update bytes_eq (numbers_in s) name (Some c.next))
         → new.levels ≡ c.levels → new.gone ≡ c.gone → new.first ≡ c.first → new.next ≡ c.next + 1 → new.location ≡ c.location + length cells → new.count ≡ c.count + 1 → new.words ≡ c.words + (length cells - 3)
         → KnowsBy new f.olds (with_added name title body s)
     knows_added sound content noted levels gone first next location count words = (
@@ -231,7 +229,7 @@ module _ (c : Catalog) (s : State) (f : Knows c s) where
             let (b, member, is) = f.ends end (subst (λ (g : List ℕ). Contains g end) gone has) in
             (b, subst (λ (xs : List Added). Contains xs b) same (Contains-append_left all (a ∷ []) b member), is);
         notes = subst (λ (n : ℕ). Notes n new.names (documents_left new.gone (f.olds ++ (f.added ++ a ∷ []))) (with_added name title body s)) (sym next)
-            (notes_more c.next c.names (documents_left c.gone all) s f.notes new.names name title body (f.notes.names name ∙ free) noted (document_in a) document_is ordered_then
+            (notes_more c.next c.names (documents_left c.gone all) s f.notes new.names name title body free noted (document_in a) document_is ordered_then
             (documents_left new.gone (f.olds ++ (f.added ++ a ∷ [])))
             (ap (λ (g : List ℕ). documents_left g (f.olds ++ (f.added ++ a ∷ []))) gone ∙ ap (documents_left c.gone) (sym same) ∙ left_more c.gone all a alive));
         numbered = subst (λ (n : ℕ). AreNumbered n (f.added ++ a ∷ [])) (sym first) (numbered_more c.first f.added a (number_is_next ∙ f.next) f.numbered);
@@ -322,8 +320,8 @@ module _ (c : Catalog) (s : State) (f : Knows c s) where
       is_member : Contains s.documents d
       is_member = subst (λ (ds : List Document). Contains ds d) f.notes.documents member_left
 
-      named : get_by_text c.names row.name ≡ Some number
-      named = ap (λ (r : DocRow). get_by_text c.names r.name) (sym is_row) ∙ found_by c.names s.documents d f.notes.numbers is_member ∙ ap (λ (n : ℕ). Some n) number_is
+      pub named : number_of row.name s ≡ Some number
+      named = ap (λ (r : DocRow). number_of r.name s) (sym is_row) ∙ found_by (numbers_in s) s.documents d (found_in s f.notes.ordered) is_member ∙ ap (λ (n : ℕ). Some n) number_is
 
       word_count_is : word_count d ≡ row.cells - 3
       word_count_is =
@@ -346,7 +344,7 @@ module _ (c : Catalog) (s : State) (f : Knows c s) where
 
       pub knows_deleted : (new : Catalog) → new.levels ≡ c.levels → new.memory ≡ c.memory → new.first ≡ c.first → new.next ≡ c.next → new.location ≡ c.location
           → ((x : ℕ) → Contains new.gone x ↔ (Contains c.gone x ⊎ (x ≡ end_of row))) → IsRising new.gone
-          → ((q : List ℕ) → get_by_text new.names q ≡ update bytes_eq (get_by_text c.names) row.name None q)
+          → Fits new.names (update bytes_eq (numbers_in s) row.name None)
           → new.count + 1 ≡ c.count → new.words + (row.cells - 3) ≡ c.words → KnowsBy new f.olds (without number s)
       knows_deleted new levels memory first next location members rising forgot count words = (
         record {
@@ -386,7 +384,7 @@ counts_are c s f =
     ∙ ap {B = ℕ × ℕ × ℕ} (λ (n : ℕ). (length s.documents, words_in s, n)) f.notes.next
 
 -- ---- a name that stands for a number
-module _ (c : Catalog) (s : State) (f : Knows c s) (name : List ℕ) (number : ℕ) (named : get_by_text c.names name ≡ Some number) where
+module _ (c : Catalog) (s : State) (f : Knows c s) (name : List ℕ) (number : ℕ) (named : number_of name s ≡ Some number) where
   pub live_number : has_number number s ≡ true
   live_number = is_numbered c.next c.names (documents_left c.gone (f.olds ++ f.added)) s f.notes name number named
 
@@ -394,7 +392,7 @@ module _ (c : Catalog) (s : State) (f : Knows c s) (name : List ℕ) (number : �
   same_deleted = deleted_is c.next c.names (documents_left c.gone (f.olds ++ f.added)) s f.notes name number named
 
 -- the document of a name
-pub named_some : (c : Catalog) (s : State) → Knows c s → (name : List ℕ) (o : Option ℕ) → o ≡ get_by_text c.names name
+pub named_some : (c : Catalog) (s : State) → Knows c s → (name : List ℕ) (o : Option ℕ) → o ≡ number_of name s
     → IfSome o (λ n. (has_name name s ≡ true) × (has_number n s ≡ true) × (without n s ≡ with_deleted name s))
 named_some c s f name None is = tt
 named_some c s f name (Some n) is = (
@@ -402,3 +400,28 @@ named_some c s f name (Some n) is = (
   live_number c s f name n (sym is),
   same_deleted c s f name n (sym is),
 )
+
+-- one for which there is none is no live document's
+pub named_none : (c : Catalog) (s : State) → Knows c s → (name : List ℕ) (o : Option ℕ) → o ≡ number_of name s → IfNone o (has_name name s ≡ false)
+named_none c s f name (Some n) is = tt
+named_none c s f name None is =
+    by_test (has_name name s)
+    (λ has. absurd (false≢true (ap is_some is ∙ names_there c.next c.names (documents_left c.gone (f.olds ++ f.added)) s f.notes name ∙ has)))
+    (λ none. none)
+
+-- the number of a hash is that of a live document
+pub likely_live : (c : Catalog) (s : State) → Knows c s → (name : List ℕ) (number : ℕ) → likely_of c.names name ≡ Some number → has_number number s ≡ true
+likely_live c s f name number is =
+    let (q, hash, has) = f.notes.names.firsts _ number is in
+    is_numbered c.next c.names (documents_left c.gone (f.olds ++ f.added)) s f.notes q number has
+
+-- no other name has the number of one that has it
+pub one_name : (c : Catalog) (s : State) → Knows c s → (a b : List ℕ) (number : ℕ) → number_of a s ≡ Some number → number_of b s ≡ Some number → a ≡ b
+one_name c s f = only_name s f.notes.ordered
+
+-- the name of the row that has the number of a live document
+pub row_named : (c : Catalog) (s : State) → Knows c s → (levels : List Tables) → levels ≡ c.levels.items → (number : ℕ) (row : DocRow)
+    → Contains (table_rows levels ++ c.memory.content.documents) row × (row.number ≡ number) → has_number number s ≡ true → number_of row.name s ≡ Some number
+row_named c s f levels same number row found has =
+    let at = row_read c s f levels same number row found in
+    named c s f number at.0 at.1 at.2 row at.3 (λ deleted. absurd (false≢true (sym (deleted_already c s f number at.0 at.1 at.2 row at.3 deleted) ∙ has)))

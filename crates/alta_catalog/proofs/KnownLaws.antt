@@ -1,9 +1,7 @@
 -- What is known of the states of which what is opened may speak.
 use Rattle.std.proofs.Common.{◌≡◌, ℕ, ◌+◌, Bool, cond, List, [], ◌∷◌, ◌++◌, map, refl, sym, ◌∙◌, ap, subst}
-use Rattle.std.specs.Prelude.{Ok, Err}
-use Rattle.std.proofs.lemmas.List.{map-append}
+use Rattle.std.specs.Prelude.{Ok, Err, is_some}
 use Rattle.alta_layout.specs.Places.{half_start}
-use Rattle.alta_content.specs.declared.document.DocRow.{DocRow}
 use Rattle.alta_meaning.specs.Entries.{Allows, AllowsAll, IsRefusedAt, after_entries, after_entry, entries_in}
 use Rattle.alta_meaning.specs.Known.{Known, Named, admits, known_behind, known_of, named_of, replayed}
 use Rattle.alta_meaning.specs.Opened.{IsNamed, Opened, known_at, live_in, table_rows}
@@ -19,9 +17,13 @@ use Rattle.alta_machine.specs.declared.document.State.{State}
 use Rattle.alta_root.specs.declared.root.Root.{Root}
 use Rattle.alta_table.specs.Tables.{Tables}
 use Rattle.alta_catalog.specs.Knowing.{Knows}
-use Rattle.alta_catalog.specs.Rows.{MayBe, MayStart}
+use Rattle.alta_catalog.specs.Rows.{MayBe, MayStart, documents_left}
+use Rattle.alta_catalog.proofs.KnowingLaws.{rows_of_all}
+use Rattle.alta_catalog.proofs.NotingLaws.{names_there, number_named}
+use Rattle.alta_machine.specs.Changes.{has_name, number_of}
+use Rattle.alta_meaning.specs.Names.{number_of as named_number}
 use Rattle.alta_catalog.specs.declared.catalog.Catalog.{Catalog}
-use Rattle.alta_catalog.proofs.StartLaws.{live_named, row_of}
+use Rattle.alta_catalog.proofs.StartLaws.{live_named}
 
 -- ---- the next number, and the live documents
 
@@ -39,20 +41,27 @@ behind_known s o image is may =
     ap (λ (k : Known). replayed k (placed (half_start o.slot) o.entries)) (start_known may.start o.root o.deleted o.levels may.starts) ∙ is.admitted in
     (allows_replayed may.start (half_start o.slot) o.entries is.known found).1 ∙ ap known_of (sym may.state_is)
 
+-- the live documents' names and numbers, as their rows have them
+pub live_of_rows : (c : Catalog) (s : State) → Knows c s → map named_of s.documents ≡ live_in c.gone (table_rows c.levels.items ++ c.memory.content.documents)
+live_of_rows c s f =
+    ap (λ (ds : List Document). map named_of ds) (sym f.notes.documents) ∙ sym (live_named c.gone (f.olds ++ f.added)) ∙ ap (live_in c.gone) (rows_of_all c s f)
+
 pub one_known : (c : Catalog) (s t : State) → Knows c s → Knows c t → known_of s ≡ known_of t
 unfolding known_with
 one_known c s t f g =
     ap (λ (n : ℕ). known_with n (map named_of s.documents)) (sym f.notes.next ∙ g.notes.next)
-    ∙ ap (known_with t.next) (live_of_rows s f ∙ sym (live_of_rows t g))
-  where
-    all_rows : (u : State) (k : Knows c u) → map row_of (k.olds ++ k.added) ≡ table_rows c.levels.items ++ c.memory.content.documents
-    all_rows u k =
-        map-append row_of k.olds k.added ∙ ap (λ (rs : List DocRow). rs ++ map row_of k.added) k.rows.rows_are
-        ∙ ap (λ (rs : List DocRow). table_rows c.levels.items ++ rs) (sym k.content.documents)
+    ∙ ap (known_with t.next) (live_of_rows c s f ∙ sym (live_of_rows c t g))
 
-    live_of_rows : (u : State) → Knows c u → map named_of u.documents ≡ live_in c.gone (table_rows c.levels.items ++ c.memory.content.documents)
-    live_of_rows u k =
-        ap (λ (ds : List Document). map named_of ds) (sym k.notes.documents) ∙ sym (live_named c.gone (k.olds ++ k.added)) ∙ ap (live_in c.gone) (all_rows u k)
+-- a name has the same number in each
+pub number_alike : (c : Catalog) (s t : State) → Knows c s → Knows c t → (name : List ℕ) → number_of name s ≡ number_of name t
+number_alike c s t f g name =
+    number_named name s.documents ∙ ap (λ (known : Known). named_number name known.live) (one_known c s t f g) ∙ sym (number_named name t.documents)
+
+-- and is free in each or in none
+pub name_alike : (c : Catalog) (s t : State) → Knows c s → Knows c t → (name : List ℕ) → has_name name s ≡ has_name name t
+name_alike c s t f g name =
+    sym (names_there c.next c.names (documents_left c.gone (f.olds ++ f.added)) s f.notes name) ∙ ap is_some (number_alike c s t f g name)
+    ∙ names_there c.next c.names (documents_left c.gone (g.olds ++ g.added)) t g.notes name
 
 -- ---- entries
 

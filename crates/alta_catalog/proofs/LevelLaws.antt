@@ -24,7 +24,7 @@ use Rattle.alta_machine.specs.declared.document.State.{State}
 use Rattle.alta_table.specs.Tables.{Tables}
 use Rattle.alta_catalog.specs.Counting.{row_words}
 use Rattle.alta_catalog.specs.Knowing.{IsEndIn, Knows, KnowsBy, Notes}
-use Rattle.alta_meaning.specs.Names.{NameMap}
+use Rattle.alta_names.specs.declared.table.NameTable.{NameTable}
 use Rattle.alta_catalog.specs.Replacing.{IsEmptied, IsPrepared, MayReplace, ends_in, level_in, rows_between, tables_between}
 use Rattle.alta_catalog.specs.Rows.{AreRowsOf, documents_left}
 use Rattle.alta_catalog.specs.declared.catalog.Catalog.{Catalog}
@@ -252,7 +252,7 @@ module _ (b : Catalog) (s : State) (f : Knows b s) (oldest : Option Tables) (n :
       rising = subst IsRising (sym put.gone) rising_then;
       ends = λ end has. ends_then end (subst (λ (es : List ℕ). Contains es end) put.gone has);
       notes = subst (λ (n : ℕ). Notes n new.names (documents_left new.gone olds) then_state) (sym put.next)
-          (subst (λ (known : NameMap). Notes b.next known (documents_left new.gone olds) then_state) (sym put.names)
+          (subst (λ (table : NameTable). Notes b.next table (documents_left new.gone olds) then_state) (sym put.names)
           (subst (λ (es : List ℕ). Notes b.next b.names (documents_left es olds) then_state) (sym put.gone)
           (notes_same b.next b.names (documents_left b.gone all) s f.notes (documents_left ends olds) named_then)));
       first = put.first ∙ sym put.next;

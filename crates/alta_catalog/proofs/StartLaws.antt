@@ -2,7 +2,6 @@
 use Rattle.std.proofs.Common.{◌≡◌, ℕ, ◌+◌, ◌-◌, ◌<◌, ◌≤◌, Bool, true, false, cond, not, List, [], ◌∷◌, ◌++◌, length, map, nat_eq, append_assoc, ⊎_elim, refl, sym, ◌∙◌, ap, subst, arith}
 use Rattle.std.specs.Prelude.{◌||◌, Contains, Some, is_some}
 use Rattle.std.specs.List.{All, list_all, list_any, sum_by}
-use Rattle.std.specs.HashMap.{get_by_text}
 use Rattle.std.specs.Str.{bytes_eq}
 use Rattle.std.proofs.lemmas.Bool.{false≢true}
 use Rattle.std.proofs.lemmas.List.{length-map}
@@ -21,7 +20,8 @@ use Rattle.alta_machine.specs.declared.document.Document.{Document}
 use Rattle.alta_table.specs.Tables.{Tables}
 use Rattle.alta_catalog.specs.Counting.{cells_in, row_words}
 use Rattle.alta_catalog.specs.Knowing.{AreFound, IsEndIn}
-use Rattle.alta_meaning.specs.Names.{AreNames, NameMap, number_of}
+use Rattle.alta_meaning.specs.Names.{number_of}
+use Rattle.alta_names.specs.Names.{Numbers}
 use Rattle.alta_catalog.specs.Rows.{AreRowsOf, documents_left}
 use Rattle.alta_catalog.proofs.SpaceLaws.{left_alive, left_dead}
 use Rattle.alta_catalog.proofs.EndLaws.{here_or_there, no_member, there}
@@ -135,8 +135,12 @@ named_there q (d ∷ ds) =
     (λ other. ap (λ (b : Bool). is_some (cond b (Some d.number) (number_of q (map named_of ds)))) other ∙ named_there q ds
     ∙ sym (ap (λ (b : Bool). b || list_any (λ (d : Document). bytes_eq q d.name) ds) other))
 
--- a name is in the map where a document has it
-pub name_known : (names : NameMap) (ds : List Document) → AreNames names (map named_of ds) → (q : List ℕ) → is_some (get_by_text names q) ≡ list_any (λ (d : Document). bytes_eq q d.name) ds
+-- these are the numbers of documents by their names
+abbrev pub AreNumbers : Numbers → List Document → Type 0
+AreNumbers names ds = (name : List ℕ) → names name ≡ number_of name (map named_of ds)
+
+-- a name has a number where a document has it
+pub name_known : (names : Numbers) (ds : List Document) → AreNumbers names ds → (q : List ℕ) → is_some (names q) ≡ list_any (λ (d : Document). bytes_eq q d.name) ds
 name_known names ds are q = ap is_some (are q) ∙ named_there q ds
 
 -- behind documents none of which has its name, a document is the first with its name
@@ -161,7 +165,7 @@ others_push front d (e ∷ more) others before =
     (All-push (λ (x : Document). (e.name ≡ x.name) → ⊥) front d (All-head (IsOther front) e more others) (λ same. (All-head (IsBefore (named_of d)) (named_of e) (map named_of more) before).1 (sym same)))
     (others_push front d more (All-tail (IsOther front) e more others) (All-tail (IsBefore (named_of d)) (named_of e) (map named_of more) before))
 
-found_behind : (names : NameMap) (all : List Document) → AreNames names (map named_of all) → (front more : List Document) → front ++ more ≡ all → AreOthers front more → AreOrdered (map named_of more) → AreFound names more
+found_behind : (names : Numbers) (all : List Document) → AreNumbers names all → (front more : List Document) → front ++ more ≡ all → AreOthers front more → AreOrdered (map named_of more) → AreFound names more
 found_behind names all are front [] split others ordered = tt
 found_behind names all are front (d ∷ more) split others ordered = (
   are d.name ∙ ap (λ (ds : List Document). number_of d.name (map named_of ds)) (sym split) ∙ first_behind front d more (All-head (IsOther front) d more others),
@@ -174,7 +178,7 @@ none_in_front [] = All-nil (IsOther [])
 none_in_front (d ∷ more) = All-cons (IsOther []) d more (All-nil (λ (x : Document). (d.name ≡ x.name) → ⊥)) (none_in_front more)
 
 -- each document's number is found by its name
-pub names_found : (names : NameMap) (ds : List Document) → AreNames names (map named_of ds) → AreOrdered (map named_of ds) → AreFound names ds
+pub names_found : (names : Numbers) (ds : List Document) → AreNumbers names ds → AreOrdered (map named_of ds) → AreFound names ds
 names_found names ds are ordered = found_behind names ds are [] ds refl (none_in_front ds) ordered
 
 -- ---- deleted ends

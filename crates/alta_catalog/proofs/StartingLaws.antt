@@ -19,7 +19,9 @@ use Rattle.alta_meaning.specs.Names.{AreNames}
 use Rattle.alta_catalog.specs.Rows.{MayStart, documents_left}
 use Rattle.alta_catalog.specs.declared.catalog.Catalog.{Catalog}
 use Rattle.alta_catalog.proofs.SettledLaws.{IsSettled, settled_knows}
-use Rattle.alta_catalog.proofs.StartLaws.{all_rows, cells_fit, ends_there, filled_of, lies_behind, live_long, live_named, live_words, name_known, names_found, space_of}
+use Rattle.alta_catalog.proofs.StartLaws.{all_rows, cells_fit, ends_there, filled_of, lies_behind, live_long, live_named, live_words, space_of}
+use Rattle.alta_catalog.proofs.NotingLaws.{number_named}
+use Rattle.alta_names.proofs.Fitting.{same_numbers}
 use Rattle.alta_meaning.proofs.KnownLaws.{IsWithin}
 use Rattle.std.proofs.lemmas.List.Elements.{All-filter, All-map}
 use Rattle.alta_memlevel.specs.Documents.{document_in}
@@ -79,8 +81,7 @@ module _ (c : Catalog) (root : Root) (size : ℕ) (sound : IsSound size root) (g
     notes = record {
       next = next_is;
       documents = ap (λ (g : List ℕ). documents_left g olds) gone_is;
-      names = λ q. name_known c.names left are_names q;
-      numbers = names_found c.names left are_names (subst AreOrdered live_is ordered);
+      names = same_numbers c.names _ _ (λ q. sym (number_named q left)) are_names;
       ordered = record { ordered = subst AreOrdered live_is ordered; within = within };
     };
     first = first_is ∙ sym next_is;

@@ -1,7 +1,6 @@
 -- What a catalog knows of a state.
-use Rattle.std.specs.Prelude.{◌≡◌, ℕ, ◌+◌, ◌-◌, ◌*◌, ◌≤◌, IsTrue, Contains, List, [], ◌∷◌, ◌++◌, is_some, Some, length}
+use Rattle.std.specs.Prelude.{◌≡◌, ℕ, ◌+◌, ◌-◌, ◌*◌, ◌≤◌, IsTrue, Contains, List, [], ◌∷◌, ◌++◌, Some, length}
 use Rattle.std.specs.List.{All, sum_by}
-use Rattle.std.specs.HashMap.{get_by_text}
 use Rattle.alta_codec.specs.Rising.{IsRising}
 use Rattle.alta_content.specs.Rows.{end_of}
 use Rattle.alta_content.specs.declared.document.DocRow.{DocRow}
@@ -10,11 +9,12 @@ use Rattle.alta_memlevel.specs.Documents.{AreMade, HasDocuments, IsBefore}
 use Rattle.alta_machine.specs.declared.document.Document.{Document}
 use Rattle.alta_machine.specs.declared.document.State.{State}
 use Rattle.alta_meaning.specs.Opened.{table_rows}
-use Rattle.alta_machine.specs.Changes.{has_name, words_in}
+use Rattle.alta_machine.specs.Changes.{number_of, words_in}
 use Rattle.alta_meaning.specs.Work.{added_from}
 use Rattle.alta_journal.specs.declared.entry.Entry.{Entry}
 use Rattle.alta_root.specs.declared.root.Root.{Root}
-use Rattle.alta_meaning.specs.Names.{NameMap}
+use Rattle.alta_names.specs.Names.{Fits, Numbers}
+use Rattle.alta_names.specs.declared.table.NameTable.{NameTable}
 use Rattle.alta_catalog.specs.Rows.{AreRowsOf, documents_left}
 use Rattle.alta_catalog.specs.declared.catalog.Catalog.{Catalog}
 use Rattle.alta_table.specs.Tables.{Tables}
@@ -24,16 +24,19 @@ use Rattle.alta_meaning.specs.Ordered.{IsOrdered}
 -- ---- names and numbers
 
 -- each document's number is found by its name
-abbrev pub AreFound : NameMap → List Document → Type 0
+abbrev pub AreFound : Numbers → List Document → Type 0
 AreFound known [] = Unit {0}
-AreFound known (document ∷ documents) = (get_by_text known document.name ≡ Some document.number) × AreFound known documents
+AreFound known (document ∷ documents) = (known document.name ≡ Some document.number) × AreFound known documents
 
--- This is the next number of the state, these are its documents, and these are their names; their numbers rise.
-pub record Notes (number : ℕ) (known : NameMap) (kept : List Document) (s : State) : Type 0 where
+-- the numbers of the live documents by their names
+abbrev pub numbers_in : State → Numbers
+numbers_in s name = number_of name s
+
+-- This is the next number of the state, these are its documents, and the table has their names; their numbers rise.
+pub record Notes (number : ℕ) (table : NameTable) (kept : List Document) (s : State) : Type 0 where
   pub next : number ≡ s.next
   pub documents : kept ≡ s.documents
-  pub names : (name : List ℕ) → is_some (get_by_text known name) ≡ has_name name s
-  pub numbers : AreFound known s.documents
+  pub names : Fits table (numbers_in s)
   pub ordered : IsOrdered (known_of s)
 
 -- ---- all of it

@@ -1,6 +1,5 @@
--- The names of live documents: as a map, and as a list in order.
-use Rattle.std.proofs.Common.{Global}
-use Rattle.std.specs.Prelude.{◌≡◌, ◌↔◌, ℕ, List, [], ◌∷◌, map, Contains, String, string_bytes, Some}
+-- The names of live documents, as a list in order.
+use Rattle.std.specs.Prelude.{◌≡◌, ◌↔◌, ℕ, List, [], ◌∷◌, map, Contains, Some}
 use Rattle.std.specs.Cmp.Lexicographic.{slice_cmp}
 use Rattle.std.specs.List.{All}
 use Rattle.std.specs.Ordering.{nat_cmp}
@@ -25,6 +24,6 @@ pub record AreNamesOf (s : State) (rows : List NameRow) : Type 0 where
 abbrev pub by_name : NameRow → NameRow → Ordering
 by_name a b = slice_cmp nat_cmp a.name b.name
 
--- the row of a name as it is kept
-abbrev pub row_of : String Global × ℕ → NameRow
-row_of entry = record { name = string_bytes entry.0; number = entry.1 }
+-- a name with its number, as a row
+abbrev pub name_row : Named → NameRow
+name_row live = record { name = live.name; number = live.number }

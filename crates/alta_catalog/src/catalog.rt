@@ -1,6 +1,6 @@
 // What is known of all live documents.
 ghost use Rattle.std.specs.List.{sum_by};
-ghost use Rattle.std.specs.Prelude.{◌≡◌, ◌↔◌, ◌++◌, ◌∷◌, [], ◌+◌, ◌-◌, ◌*◌, ◌<◌, ◌≤◌, ℕ, List, true, false, length, IsTrue, IfOk, IfSome, IfNone, OnOk};
+ghost use Rattle.std.specs.Prelude.{◌≡◌, ◌≢◌, ◌↔◌, ◌++◌, ◌∷◌, [], ◌+◌, ◌-◌, ◌*◌, ◌<◌, ◌≤◌, ℕ, List, Some, true, false, length, map, IsTrue, IfOk, IfSome, IfNone, OnOk};
 ghost use Rattle.alta_codec.specs.Name.{IsName};
 ghost use Rattle.alta_codec.specs.Rising.{IsRising};
 ghost use Rattle.alta_content.specs.declared.document.DocRow.{DocRow};
@@ -17,6 +17,7 @@ ghost use Rattle.alta_machine.specs.declared.document.State.{State};
 ghost use Rattle.alta_root.specs.Root.{IsSound};
 ghost use Rattle.alta_catalog.specs.Knowing.{AreParts, Follows, Knows, KnowsBy, gone_of, levels_of, location_of, memory_of, newest_of, next_of};
 ghost use Rattle.alta_meaning.specs.Names.{AreNames};
+ghost use Rattle.alta_content.specs.All.{rows_of_levels, shared_rows};
 ghost use Rattle.alta_catalog.specs.Names.{AreNamesOf};
 ghost use Rattle.alta_catalog.specs.Replacing.{HasRoom, IsEmptied, IsPrepared, MayReplace, deleted_of, level_in, rows_between, stay_from_of, tables_between};
 ghost use Rattle.alta_catalog.specs.Rows.{AreRowsOf, MayStart, documents_left};
@@ -25,19 +26,20 @@ ghost use Rattle.alta_root.specs.declared.root.Root.{Root};
 use crate::Deletions;
 use crate::finding::{end_of, find};
 use crate::lists::Names;
-use crate::names::{forget, note, rows_in};
+use crate::names::names_in;
 use crate::replacing::{PreparedLevels, ends_to_come, put_between};
 use crate::sharing::{share_rows, with_runs};
 use crate::starting::{ends_of, tally_levels};
 use alta_codec::{DocNumber, Loc, Text};
-use alta_content::{AllRows, DocRow};
+use alta_content::{AllRows, DocRow, LevelRows};
 use alta_machine::{MetaFault, cells};
 use alta_memlevel::MemLevel;
+use alta_names::NameTable;
 use alta_root::{LAST_NEXT, Root};
 use alta_table::OpenLevel;
 use std::alloc::{AllocError, Global};
-use std::collections::HashMap;
 use std::mem;
+use std::rc::Rc;
 
 // The cells of a document that are no words: its name's, its title's end, and its own end.
 pub(crate) const MARKS: u64 = 3;
@@ -55,7 +57,7 @@ pub struct Catalog {
     // How many live documents there are, and how many words they have.
     count: u64,
     words: u64,
-    names: HashMap<String, u64>,
+    names: NameTable,
     levels: Vec<OpenLevel>,
     memory: MemLevel,
     gone: Deletions,
@@ -71,7 +73,7 @@ impl Catalog {
         root: &Root,
         levels: Vec<OpenLevel>,
         deleted: &[Loc],
-        names: HashMap<String, u64>,
+        names: NameTable,
     ) -> Result<Catalog, AllocError>
         requires sound { (size : ℕ) × IsSound size root.now }
         requires rows { AreDocuments (table_rows levels.items) }
@@ -131,9 +133,15 @@ impl Catalog {
         requires { (s : State) × Knows self.now s }
         ensures { IfOk result (λ rows. rows ≡ table_rows (levels_of self.now) ++ (memory_of self.now).content.documents) }
     {
+        AllRows::new(self.alloc, self.runs()?)
+    }
+
+    // The same, as they are shared.
+    fn runs(&self) -> Result<Vec<Rc<LevelRows>>, AllocError>
+        ensures { IfOk result (λ runs. rows_of_levels (map shared_rows runs.items) ≡ table_rows (levels_of self.now) ++ (memory_of self.now).content.documents) }
+    {
         let rows = share_rows(self.alloc, &self.levels)?;
-        let all = with_runs(rows, self.memory.runs()?)?;
-        AllRows::new(self.alloc, all)
+        with_runs(rows, self.memory.runs()?)
     }
 
     /// How many live documents there are, how many words they have in all, and the number that the next document gets. All three
@@ -151,17 +159,42 @@ impl Catalog {
         self.next < LAST_NEXT
     }
 
-    /// The number of the live document with this name, None where there is none.
+    /// The number of the live document with this name, None where there is none. It is looked up by the name's hash, and the name compared
+    /// with that of the row of the number, which is found by halves in each level.
     pub fn number_of(&self, name: &str) -> Option<u64>
         ensures value { (s : State) → Knows self.now s → result ≡ number_of name.now s }
         ensures some { (s : State) → Knows self.now s → IfSome result (λ n. (has_name name.now s ≡ true) × (has_number n s ≡ true) × (without n s ≡ with_deleted name.now s)) }
         ensures none { (s : State) → Knows self.now s → IfNone result (has_name name.now s ≡ false) }
     {
-        self.names.get(name).copied()
+        self.look_up(name)
     }
 
-    /// The names of the live documents with their numbers, in the order of bytes, each once. They are kept by their hashes and so in no
-    /// order: one pass over them, a copy of each, and then a sort of the copies.
+    // The number of the live document with this name.
+    fn look_up(&self, name: &str) -> Option<u64>
+        ensures { (s : State) → Knows self.now s → result ≡ number_of name.now s }
+    {
+        let Some(number) = self.names.likely(name) else {
+            return self.names.other(name);
+        };
+        if self.is_named(number, name) {
+            return Some(number);
+        }
+        self.names.other(name)
+    }
+
+    // Whether the row with the number of a live document has this name.
+    fn is_named(&self, number: u64, name: &str) -> bool
+        ensures yes { (s : State) → Knows self.now s → has_number number s ≡ true → result ≡ true → number_of name.now s ≡ Some number }
+        ensures no { (s : State) → Knows self.now s → has_number number s ≡ true → result ≡ false → number_of name.now s ≢ Some number }
+    {
+        let Some(row) = find(&self.levels, &self.memory, self.first, number) else {
+            return false;
+        };
+        row.name.as_str() == name
+    }
+
+    /// The names of the live documents with their numbers, in the order of bytes, each once: one pass over the rows, a copy of each name,
+    /// and then a sort of the copies.
     ///
     /// # Errors
     ///
@@ -169,7 +202,7 @@ impl Catalog {
     pub fn names(&self, alloc: Global) -> Result<Names, AllocError>
         ensures { (s : State) → Knows self.now s → IfOk result (AreNamesOf s) }
     {
-        rows_in(alloc, &self.names)
+        names_in(alloc, &self.runs()?, &self.gone)
     }
 
     /// Adds a document, whose name is free and for which a number is left.
@@ -203,7 +236,7 @@ impl Catalog {
             name: Text::of(alloc, name)?,
         };
         self.memory.add(row, &cells)?;
-        note(alloc, &mut self.names, name, self.next)?;
+        self.names.note(alloc, name, self.next)?;
         self.next += 1;
         self.location += count;
         self.count += 1;
@@ -234,7 +267,7 @@ impl Catalog {
             return Ok(false);
         }
         self.gone.delete(end)?;
-        forget(&mut self.names, row.name.as_str());
+        self.names.forget(row.name.as_str(), number);
         self.count -= 1;
         self.words -= row.cells - MARKS;
         Ok(true)

@@ -1,50 +1,31 @@
-// The numbers of live documents by their names.
-// A map by hash: opening puts each live name into it, and no line asks for all of them in order, so an ordered map would compare at
-// every step down for nothing. `Store::names` copies them in one pass, and sorts the copies. The seed is fixed: whoever picks all
-// names can make the map slow, and no answer wrong.
-ghost use Rattle.std.specs.HashMap.{IsUnique, get_by_text};
+// The live documents' names with their numbers, in the order of bytes.
 ghost use Rattle.std.specs.List.Sorted.{IsPermutation, IsSorted};
-ghost use Rattle.std.specs.Map.{update};
-ghost use Rattle.std.specs.Prelude.{◌≡◌, ℕ, List, Some, None, IfOk, OnOk, map};
-ghost use Rattle.std.specs.Str.{bytes_eq};
-ghost use Rattle.std.specs.String.{string_eq};
-ghost use Rattle.alta_catalog.specs.Names.{by_name, row_of};
+ghost use Rattle.std.specs.Prelude.{◌≡◌, ◌++◌, ◌∷◌, [], map, IfOk, OnOk};
+ghost use Rattle.alta_content.specs.All.{rows_of_levels, shared_rows};
+ghost use Rattle.alta_content.specs.Rows.{end_of};
+ghost use Rattle.alta_meaning.specs.Opened.{live_in};
+ghost use Rattle.alta_catalog.specs.Names.{by_name, name_row};
 
+use crate::Deletions;
 use crate::lists::{NameRow, Names};
-use alta_codec::Text;
+use alta_codec::{Loc, Text};
+use alta_content::{DocRow, LevelRows};
 use std::alloc::{AllocError, Global};
-use std::collections::HashMap;
+use std::convert::AsSlice;
+use std::rc::Rc;
 
-// Notes the name of a document.
-pub(crate) fn note(
+/// The names of the live documents of these rows with their numbers, in the order of bytes.
+pub(crate) fn names_in(
     alloc: Global,
-    names: &mut HashMap<String, u64>,
-    name: &str,
-    number: u64,
-) -> Result<(), AllocError>
-    ensures { OnOk result ((q : List ℕ) → get_by_text names.new q ≡ update bytes_eq (get_by_text names.old) name.now (Some number) q) }
-{
-    let key = String::from_str(alloc, name)?;
-    names.insert(key, number)?;
-    Ok(())
-}
-
-// Forgets the name of a document.
-pub(crate) fn forget(names: &mut HashMap<String, u64>, name: &str)
-    ensures { (q : List ℕ) → get_by_text names.new q ≡ update bytes_eq (get_by_text names.old) name.now None q }
-{
-    names.remove(name);
-}
-
-// The names with their numbers, in the order of bytes.
-pub(crate) fn rows_in(alloc: Global, names: &HashMap<String, u64>) -> Result<Names, AllocError>
-    ensures rows { IfOk result (IsPermutation (map row_of names.now.entries)) }
+    runs: &[Rc<LevelRows>],
+    gone: &Deletions,
+) -> Result<Names, AllocError>
+    ensures rows { IfOk result (IsPermutation (map name_row (live_in gone.now (rows_of_levels (map shared_rows runs.now))))) }
     ensures sorted { IfOk result (IsSorted by_name) }
-    ensures unique { IsUnique string_eq names.now }
 {
-    let mut rows = copy_of(alloc, names)?;
-    sort(&mut rows);
-    Ok(Names::from_vec(rows))
+    let mut names = live_names(alloc, runs, gone)?;
+    sort(&mut names);
+    Ok(Names::from_vec(names))
 }
 
 // Sorts the rows by their names, in the order of bytes.
@@ -55,16 +36,53 @@ fn sort(rows: &mut Vec<NameRow>)
     rows.sort_unstable_by(|a, b| a.name.as_str().cmp(b.name.as_str()));
 }
 
-// A copy of the names with their numbers, in the order of the map.
-fn copy_of(alloc: Global, names: &HashMap<String, u64>) -> Result<Vec<NameRow>, AllocError>
-    ensures rows { IfOk result (λ rows. rows.items ≡ map row_of names.now.entries) }
-    ensures unique { IsUnique string_eq names.now }
+// The names of the live documents of these rows with their numbers, in the order of the rows.
+fn live_names(
+    alloc: Global,
+    runs: &[Rc<LevelRows>],
+    gone: &Deletions,
+) -> Result<Vec<NameRow>, AllocError>
+    ensures { IfOk result (λ names. names.items ≡ map name_row (live_in gone.now (rows_of_levels (map shared_rows runs.now)))) }
 {
-    let mut rows = Vec::new(alloc);
-    for (name, number) in names {
-        rows.push(named(alloc, name.as_str(), *number)?)?;
+    let mut names = Vec::new(alloc);
+    for run in runs {
+        put_names(alloc, &mut names, run, gone)?;
     }
-    Ok(rows)
+    Ok(names)
+}
+
+// Adds the names of the live documents of a run.
+fn put_names(
+    alloc: Global,
+    names: &mut Vec<NameRow>,
+    rows: &LevelRows,
+    gone: &Deletions,
+) -> Result<(), AllocError>
+    ensures { OnOk result (names.new.items ≡ names.old.items ++ map name_row (live_in gone.now rows.now)) }
+{
+    let ends = rows.ends();
+    for (i, row) in rows.as_slice().iter().enumerate() {
+        put_name(alloc, names, row, ends[i], gone)?;
+    }
+    Ok(())
+}
+
+// Adds the name of a row that ends there, unless its document is gone.
+fn put_name(
+    alloc: Global,
+    names: &mut Vec<NameRow>,
+    row: &DocRow,
+    end: Loc,
+    gone: &Deletions,
+) -> Result<(), AllocError>
+    requires { end ≡ end_of row.now }
+    ensures { OnOk result (names.new.items ≡ names.old.items ++ map name_row (live_in gone.now (row.now ∷ []))) }
+{
+    if gone.holds(end) {
+        return Ok(());
+    }
+    names.push(named(alloc, row.name.as_str(), row.number)?)?;
+    Ok(())
 }
 
 fn named(alloc: Global, name: &str, number: u64) -> Result<NameRow, AllocError>

@@ -1,7 +1,6 @@
 -- A level behind those that were opened.
 use Rattle.std.proofs.Common.{◌≡◌, ℕ, suc, ◌+◌, ◌<◌, ◌≤◌, true, List, [], ◌∷◌, ◌++◌, length, take, drop, get_or, drop-cons, refl, sym, ap, subst, ◌∙◌, Result, Ok, Err, arith}
-use Rattle.std.specs.Prelude.{None, nat_lt, ◌&&◌}
-use Rattle.std.specs.HashMap.{get_by_text}
+use Rattle.std.specs.Prelude.{nat_lt, ◌&&◌}
 use Rattle.std.proofs.lemmas.List.{get_or_default, take-append-drop, take_more}
 use Rattle.std.proofs.lemmas.List.Sums.{sum_by_more, sum_by_more_le}
 use Rattle.std.specs.List.{sum_by, list_all}
@@ -31,7 +30,7 @@ use Rattle.alta_meaning.proofs.Tests.{and_left, and_right, below_from}
 abbrev IsBelow : Root → DocRow → Type 0
 IsBelow root row = (row.number < root.next_number) × (end_of row < root.next_location)
 
-pub reached_none : (root : Root) (deleted : List ℕ) (found : Levels) → found.levels.items ≡ [] → left_by found.last ≡ start → ((q : List ℕ) → get_by_text found.names q ≡ None) → HasReached root deleted found
+pub reached_none : (root : Root) (deleted : List ℕ) (found : Levels) → found.levels.items ≡ [] → left_by found.last ≡ start → AreNames found.names [] → HasReached root deleted found
 unfolding AreDocumentsBehind
 reached_none root deleted found none last names = record {
   rows = subst (λ (ls : List Tables). AreDocuments (table_rows ls)) (sym none) tt;

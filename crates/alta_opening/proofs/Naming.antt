@@ -1,12 +1,11 @@
--- Names of live documents, as a list and as a map.
-use Rattle.std.proofs.Common.{◌≡◌, inl, inr, ⊎_elim, ℕ, suc, ◌+◌, ◌<◌, Bool, true, false, cond, Global, List, [], ◌∷◌, ◌++◌, length, take, drop, get_or, drop-cons, Option, refl, sym, ap, subst, ◌∙◌, Err, append_assoc, arith}
-use Rattle.std.specs.Prelude.{◌||◌, ◌⊎◌, not, Some, None, String, is_some}
-use Rattle.std.specs.HashMap.{IsReordered, get_by_text}
-use Rattle.std.specs.Map.{lookup, update}
+-- Names of live documents, as a list and in a table.
+use Rattle.std.proofs.Common.{◌≡◌, ℕ, suc, ◌+◌, ◌<◌, Bool, true, false, cond, List, [], ◌∷◌, ◌++◌, length, take, drop, get_or, drop-cons, Option, refl, sym, ap, subst, ◌∙◌, Err, append_assoc, arith}
+use Rattle.std.specs.Prelude.{◌||◌, not, Some, None, is_some}
+use Rattle.std.specs.Map.{update}
 use Rattle.std.specs.Str.{bytes_eq}
-use Rattle.std.specs.String.{string_bytes, string_eq}
 use Rattle.std.proofs.lemmas.Bool.{false≢true}
 use Rattle.std.proofs.lemmas.List.{append-nil, take_more}
+use Rattle.std.proofs.lemmas.List.Folds.{list_any-append}
 use Rattle.alta_content.specs.Rows.{ends_among}
 use Rattle.alta_content.specs.declared.document.DocRow.{DocRow}
 use Rattle.alta_meaning.specs.Known.{Named, is_taken, named}
@@ -16,7 +15,10 @@ use Rattle.alta_meaning.proofs.OrderLaws.{live_append, live_drop, live_keep}
 use Rattle.alta_meaning.proofs.Tests.{by_test, bytes_from}
 use Rattle.alta_table.specs.Places.{name_place}
 use Rattle.alta_table.specs.Tables.{Tables}
-use Rattle.alta_meaning.specs.Names.{AreNames, NameMap, number_of}
+use Rattle.alta_meaning.specs.Names.{AreNames, number_of}
+use Rattle.alta_names.specs.Names.{Fits, likely_of, other_of}
+use Rattle.alta_names.specs.declared.table.NameTable.{NameTable}
+use Rattle.alta_names.proofs.Fitting.{by_text, same_numbers}
 use Rattle.alta_opening.specs.Names.{may_join}
 
 -- ---- a name among live documents
@@ -44,43 +46,55 @@ number_before : (name : List ℕ) (live : List Named) (last : Named) → bytes_e
 number_before name [] last differs = ap (λ (b : Bool). cond b (Some last.number) None) differs
 number_before name (row ∷ rows) last differs = ap (λ (o : Option ℕ). cond (bytes_eq name row.name) (Some row.number) o) (number_before name rows last differs)
 
--- a name that no live document has is noted
-pub noted : (m n : NameMap) (live : List Named) (name : List ℕ) (number : ℕ) → AreNames m live → is_taken name live ≡ false
-    → ((q : List ℕ) → get_by_text n q ≡ update bytes_eq (get_by_text m) name (Some number) q) → AreNames n (live ++ named name number ∷ [])
-noted m n live name number are free updated q =
+-- a name that no live document has has no number
+pub free_none : (name : List ℕ) (live : List Named) → is_taken name live ≡ false → number_of name live ≡ None
+free_none name [] free = refl
+free_none name (row ∷ rows) free =
+    by_test (bytes_eq name row.name)
+    (λ same. absurd (false≢true (sym free ∙ ap (λ (b : Bool). b || is_taken name rows) same)))
+    (λ differs. ap (λ (b : Bool). cond b (Some row.number) (number_of name rows)) differs ∙ free_none name rows (sym (ap (λ (b : Bool). b || is_taken name rows) differs) ∙ free))
+
+-- a document more has its number by its name
+number_noted : (live : List Named) (name : List ℕ) (number : ℕ) → is_taken name live ≡ false
+    → (q : List ℕ) → update bytes_eq (λ (x : List ℕ). number_of x live) name (Some number) q ≡ number_of q (live ++ named name number ∷ [])
+number_noted live name number free q =
     by_test (bytes_eq name q)
     (λ same.
     let is : name ≡ q = bytes_from name q same in
-    updated q ∙ ap (λ (b : Bool). cond b (Some number) (get_by_text m q)) same
+    ap (λ (b : Bool). cond b (Some number) (number_of q live)) same
     ∙ sym (number_behind q live (named name number ∷ []) (subst (λ (x : List ℕ). is_taken x live ≡ false) is free)
     ∙ ap (λ (b : Bool). cond b (Some number) None) (bytes_eq-swap q name ∙ same)))
     (λ differs.
-    updated q ∙ ap (λ (b : Bool). cond b (Some number) (get_by_text m q)) differs ∙ are q
+    ap (λ (b : Bool). cond b (Some number) (number_of q live)) differs
     ∙ sym (number_before q live (named name number) (bytes_eq-swap q name ∙ differs)))
 
--- ---- a map in another order
+-- ---- a name among the live documents of rows
 
--- one of the keys has this text, or none is found by it
-text_in : (text : List ℕ) (es : List (String Global × ℕ)) → ((key : String Global) × (text ≡ string_bytes key)) ⊎ (lookup (λ (key : String Global). bytes_eq text (string_bytes key)) es ≡ None)
-text_in text [] = inr refl
-text_in text (e ∷ es) =
-    by_test (bytes_eq text (string_bytes e.0))
-    (λ same. inl (e.0, bytes_from text (string_bytes e.0) same))
-    (λ differs.
-    ⊎_elim (λ key. inl key)
-    (λ none. inr (ap (λ (b : Bool). cond b (Some e.1) (lookup (λ (key : String Global). bytes_eq text (string_bytes key)) es)) differs ∙ none))
-    (text_in text es))
+-- a row that is deleted has none
+pub dead_free : (deleted : List ℕ) (name : List ℕ) (row : DocRow) → ends_among deleted row ≡ true → is_taken name (live_in deleted (row ∷ [])) ≡ false
+dead_free deleted name row dead = ap (is_taken name) (live_drop deleted row [] dead)
 
--- each name has the number of before
-same_found : (m n : NameMap) → IsReordered string_eq m n → (name : List ℕ) → get_by_text n name ≡ get_by_text m name
-same_found m n same name =
-    ⊎_elim by_key (λ none. ⊎_elim by_key (λ neither. neither ∙ sym none) (text_in name n.entries)) (text_in name m.entries)
+-- and another its own
+pub live_named : (deleted : List ℕ) (name : List ℕ) (row : DocRow) → ends_among deleted row ≡ false → is_taken name (live_in deleted (row ∷ [])) ≡ bytes_eq row.name name
+live_named deleted name row lives =
+    ap (is_taken name) (live_keep deleted row [] lives) ∙ or_none (bytes_eq name row.name) ∙ bytes_eq-swap name row.name
   where
-    by_key : (key : String Global) × (name ≡ string_bytes key) → get_by_text n name ≡ get_by_text m name
-    by_key (key, is) = ap (get_by_text n) is ∙ same.2 key ∙ ap (get_by_text m) (sym is)
+    or_none : (b : Bool) → (b || false) ≡ b
+    or_none true = refl
+    or_none false = refl
 
-pub names_stay : (m n : NameMap) (live : List Named) → IsReordered string_eq m n → AreNames m live → AreNames n live
-names_stay m n live same are name = same_found m n same name ∙ are name
+-- one of two lists has it
+pub taken_either : (name : List ℕ) (first second : List Named) → is_taken name (first ++ second) ≡ (is_taken name first || is_taken name second)
+taken_either name first second = list_any-append (λ (row : Named). bytes_eq name row.name) first second
+
+pub taken_split : (deleted : List ℕ) (name : List ℕ) (rows more : List DocRow)
+    → is_taken name (live_in deleted (rows ++ more)) ≡ (is_taken name (live_in deleted rows) || is_taken name (live_in deleted more))
+taken_split deleted name rows more = ap (is_taken name) (live_append deleted rows more) ∙ taken_either name (live_in deleted rows) (live_in deleted more)
+
+-- what is not found by its hash is found by its text, or not at all
+pub taken_by_text : (table : NameTable) (live : List Named) → AreNames table live → (name : List ℕ) → likely_of table name ≡ None → is_some (other_of table name) ≡ is_taken name live
+taken_by_text table live are name none =
+    ap is_some (by_text table (λ (x : List ℕ). number_of x live) are name (λ n first has. absurd (cc (none, first)))) ∙ sym (taken_found name live)
 
 -- ---- a row behind live documents
 
@@ -90,10 +104,10 @@ joins_dead deleted live row dead = ap (λ (b : Bool). b || not (is_taken row.nam
 pub joins_live : (deleted : List ℕ) (live : List Named) (row : DocRow) → ends_among deleted row ≡ false → may_join deleted live row ≡ not (is_taken row.name live)
 joins_live deleted live row lives = ap (λ (b : Bool). b || not (is_taken row.name live)) lives
 
-pub names_live : (m n : NameMap) (deleted : List ℕ) (live : List Named) (row : DocRow) → ends_among deleted row ≡ false → AreNames m live → is_taken row.name live ≡ false
-    → ((q : List ℕ) → get_by_text n q ≡ update bytes_eq (get_by_text m) row.name (Some row.number) q) → AreNames n (live ++ live_in deleted (row ∷ []))
-names_live m n deleted live row lives are free updated =
-    subst (AreNames n) (sym (ap (λ (l : List Named). live ++ l) (live_keep deleted row [] lives))) (noted m n live row.name row.number are free updated)
+pub names_live : (table : NameTable) (deleted : List ℕ) (live : List Named) (row : DocRow) → ends_among deleted row ≡ false → is_taken row.name live ≡ false
+    → Fits table (update bytes_eq (λ (x : List ℕ). number_of x live) row.name (Some row.number)) → AreNames table (live ++ live_in deleted (row ∷ []))
+names_live table deleted live row lives free noted =
+    subst (AreNames table) (sym (ap (λ (l : List Named). live ++ l) (live_keep deleted row [] lives))) (same_numbers table _ _ (number_noted live row.name row.number free) noted)
 
 -- a row that may join is passed
 pub passes : (deleted : List ℕ) (level : Tables) (live : List Named) (i : ℕ) (row : DocRow) (rows : List DocRow) → may_join deleted live row ≡ true
@@ -134,7 +148,7 @@ stops deleted level live i row rows joins =
 -- ---- a row among those of a level
 
 -- the rows from a place on
-rows_from : (rows : List DocRow) (i : ℕ) (row : DocRow) → i < length rows → row ≡ get_or rows i row → drop i rows ≡ row ∷ drop (i + 1) rows
+pub rows_from : (rows : List DocRow) (i : ℕ) (row : DocRow) → i < length rows → row ≡ get_or rows i row → drop i rows ≡ row ∷ drop (i + 1) rows
 rows_from rows i row inside is =
     let next : suc i ≡ i + 1 = omega arith in
     drop-cons rows i row inside ∙ ap (λ (r : DocRow). r ∷ drop (suc i) rows) (sym is) ∙ ap (λ (k : ℕ). row ∷ drop k rows) next
@@ -148,14 +162,14 @@ live_more deleted rows i row inside is live =
     (sym (live_append deleted (take i rows) (row ∷ [])) ∙ ap (λ (r : DocRow). live_in deleted (take i rows ++ r ∷ [])) is ∙ ap (live_in deleted) (sym (take_more rows i row inside)))
 
 -- what is known of the names in front of a row
-abbrev pub IsNoted : List ℕ → Tables → NameMap → List Named → ℕ → Type 0
+abbrev pub IsNoted : List ℕ → Tables → NameTable → List Named → ℕ → Type 0
 IsNoted deleted level names live i =
     (names_from deleted level live 0 level.documents ≡ names_from deleted level (live ++ live_in deleted (take i level.documents)) i (drop i level.documents))
     × AreNames names (live ++ live_in deleted (take i level.documents))
 
-module _ (deleted : List ℕ) (level : Tables) (names : NameMap) (live : List Named) (i : ℕ) (row : DocRow) (inside : i < length level.documents) (is : row ≡ get_or level.documents i row)
+module _ (deleted : List ℕ) (level : Tables) (names : NameTable) (live : List Named) (i : ℕ) (row : DocRow) (inside : i < length level.documents) (is : row ≡ get_or level.documents i row)
     (so_far : IsNoted deleted level names live i) where
-  pub passed_row : (next : NameMap) → may_join deleted (live ++ live_in deleted (take i level.documents)) row ≡ true
+  pub passed_row : (next : NameTable) → may_join deleted (live ++ live_in deleted (take i level.documents)) row ≡ true
       → AreNames next ((live ++ live_in deleted (take i level.documents)) ++ live_in deleted (row ∷ [])) → IsNoted deleted level next live (i + 1)
   passed_row next joins are = (
     so_far.0 ∙ ap (names_from deleted level (live ++ live_in deleted (take i level.documents)) i) (rows_from level.documents i row inside is)

@@ -17,17 +17,17 @@ use crate::order::{Last, are_placed, last_of};
 use crate::tables::read_tables;
 use alta_codec::{Extent, Loc};
 use alta_disk::{Disk, LoadFault};
+use alta_names::NameTable;
 use alta_root::{LEVEL_BYTES, Root};
 use alta_table::OpenLevel;
 use std::alloc::Global;
-use std::collections::HashMap;
 
 /// The levels that were opened so far, their last row, and the names of their live documents.
 #[derive(Drop)]
 pub(crate) struct Levels {
     pub(crate) levels: Vec<OpenLevel>,
     pub(crate) last: Last,
-    pub(crate) names: HashMap<String, u64>,
+    pub(crate) names: NameTable,
 }
 
 // No level.
@@ -38,7 +38,7 @@ fn no_levels(alloc: Global, root: &Root, deleted: &[Loc]) -> Levels
     Levels {
         levels: Vec::new(alloc),
         last: Last { number: 0, end: 0 },
-        names: HashMap::new(alloc),
+        names: NameTable::new(alloc),
     }
 }
 
@@ -64,7 +64,7 @@ fn admit(
         return Err(LoadFault::Damaged(extent.place));
     }
     let last = last_of(rows);
-    note_names(alloc, &mut found.names, deleted, &level)?;
+    note_names(alloc, &mut found.names, deleted, &found.levels, &level)?;
     found.last = last;
     found.levels.push(level)?;
     Ok(())

@@ -1,22 +1,19 @@
 // The names of live documents.
-ghost use Rattle.std.specs.HashMap.{get_by_text};
-ghost use Rattle.std.specs.Map.{update};
-ghost use Rattle.std.specs.Prelude.{◌≡◌, ◌≢◌, ◌++◌, ◌∷◌, [], ℕ, List, not, true, Some, Ok, Err, IfOk, OnOk};
-ghost use Rattle.std.specs.Str.{bytes_eq};
+ghost use Rattle.std.specs.Prelude.{◌≡◌, ◌≢◌, ◌++◌, ◌∷◌, [], ℕ, All, true, Ok, Err, IfOk, OnOk};
 ghost use Rattle.alta_codec.specs.Rising.{IsRising};
 ghost use Rattle.alta_content.specs.Rows.{IsPlaced, ends_among};
-ghost use Rattle.alta_meaning.specs.Known.{Named, is_taken};
-ghost use Rattle.alta_meaning.specs.Opened.{live_in, names_from};
+ghost use Rattle.alta_meaning.specs.Known.{is_taken};
+ghost use Rattle.alta_meaning.specs.Opened.{live_in, names_in, table_rows};
 ghost use Rattle.alta_meaning.specs.Names.{AreNames};
-ghost use Rattle.alta_opening.specs.Names.{may_join};
+ghost use Rattle.alta_opening.specs.Names.{live_behind, may_join};
 ghost use Rattle.alta_disk.specs.declared.fault.LoadFault.TheVariants.{Damaged, Disk as DiskFault};
 
 use alta_codec::Loc;
 use alta_content::DocRow;
 use alta_disk::LoadFault;
+use alta_names::NameTable;
 use alta_table::OpenLevel;
 use std::alloc::{AllocError, Global};
-use std::collections::HashMap;
 
 // Whether the row's document is deleted.
 fn is_deleted(deleted: &[Loc], row: &DocRow) -> bool
@@ -28,65 +25,116 @@ fn is_deleted(deleted: &[Loc], row: &DocRow) -> bool
     deleted.binary_search(&end).is_ok()
 }
 
-// Notes the name of a document, in place of one that has it, and answers whether there was one.
-fn note(
-    alloc: Global,
-    names: &mut HashMap<String, u64>,
-    name: &str,
-    number: u64,
-) -> Result<bool, AllocError>
-    ensures taken { (live : List Named) → AreNames names.old live → IfOk result (λ taken. taken ≡ is_taken name.now live) }
-    ensures noted { OnOk result ((q : List ℕ) → get_by_text names.new q ≡ update bytes_eq (get_by_text names.old) name.now (Some number) q) }
+// Whether the row's document is live and has the name.
+fn is_named(deleted: &[Loc], row: &DocRow, name: &str) -> bool
+    requires rising { IsRising deleted.now }
+    requires placed { IsPlaced row.now }
+    ensures { result ≡ is_taken name.now (live_in deleted.now (row.now ∷ [])) }
 {
-    let key = String::from_str(alloc, name)?;
-    let before = names.insert(key, number)?;
-    Ok(before.is_some())
+    if is_deleted(deleted, row) {
+        return false;
+    }
+    row.name.as_str() == name
+}
+
+// Whether a live document of these rows has the name.
+fn is_in_rows(deleted: &[Loc], rows: &[DocRow], name: &str) -> bool
+    requires rising { IsRising deleted.now }
+    requires placed { All IsPlaced rows.now }
+    ensures { result ≡ is_taken name.now (live_in deleted.now rows.now) }
+{
+    for row in rows {
+        if is_named(deleted, row, name) {
+            return true;
+        }
+    }
+    false
+}
+
+// Whether a live document of these levels has the name.
+fn is_in_levels(deleted: &[Loc], levels: &[OpenLevel], name: &str) -> bool
+    requires { IsRising deleted.now }
+    ensures { result ≡ is_taken name.now (live_in deleted.now (table_rows levels.now)) }
+{
+    for level in levels {
+        if is_in_rows(deleted, level.documents(), name) {
+            return true;
+        }
+    }
+    false
+}
+
+// Whether a live document of the levels, or of the rows behind them, has the name. Where one has its hash, all their names are looked at.
+fn has_live(
+    names: &NameTable,
+    deleted: &[Loc],
+    levels: &[OpenLevel],
+    behind: &[DocRow],
+    name: &str,
+) -> bool
+    requires rising { IsRising deleted.now }
+    requires placed { All IsPlaced behind.now }
+    requires names { AreNames names.now (live_behind deleted.now levels.now behind.now) }
+    ensures { result ≡ is_taken name.now (live_behind deleted.now levels.now behind.now) }
+{
+    match names.likely(name) {
+        None => names.other(name).is_some(),
+        Some(_number) => {
+            if is_in_levels(deleted, levels, name) {
+                return true;
+            }
+            is_in_rows(deleted, behind, name)
+        }
+    }
 }
 
 // Whether a row's document is deleted, or no live one before has its name. The name of one that is not deleted is noted.
 fn join(
     alloc: Global,
-    names: &mut HashMap<String, u64>,
+    names: &mut NameTable,
     deleted: &[Loc],
+    levels: &[OpenLevel],
+    behind: &[DocRow],
     row: &DocRow,
 ) -> Result<bool, AllocError>
     requires rising { IsRising deleted.now }
+    requires before { All IsPlaced behind.now }
     requires placed { IsPlaced row.now }
-    ensures free { (live : List Named) → AreNames names.old live → IfOk result (λ joins. joins ≡ may_join deleted.now live row.now) }
-    ensures names { (live : List Named) → AreNames names.old live → IfOk result (λ joins. joins ≡ true → AreNames names.new (live ++ live_in deleted.now (row.now ∷ []))) }
+    requires names { AreNames names.old (live_behind deleted.now levels.now behind.now) }
+    ensures free { IfOk result (λ joins. joins ≡ may_join deleted.now (live_behind deleted.now levels.now behind.now) row.now) }
+    ensures names { IfOk result (λ joins. joins ≡ true → AreNames names.new (live_behind deleted.now levels.now behind.now ++ live_in deleted.now (row.now ∷ []))) }
 {
     if is_deleted(deleted, row) {
         return Ok(true);
     }
-    let taken = note(alloc, names, row.name.as_str(), row.number)?;
-    Ok(!taken)
+    let name = row.name.as_str();
+    if has_live(names, deleted, levels, behind, name) {
+        return Ok(false);
+    }
+    names.note(alloc, name, row.number)?;
+    Ok(true)
 }
 
-// Makes room for so many names more.
-fn make_room(names: &mut HashMap<String, u64>, count: usize) -> Result<(), AllocError>
-    ensures { (live : List Named) → AreNames names.old live → AreNames names.new live }
-{
-    names.reserve(count)
-}
-
-/// Notes the names of a level's live documents, for all of whose rows room is made at once. A name that a live document before has is damage at its place. After an error
-/// some of the level's names are noted.
+/// Notes the names of the live documents of a level behind others, for all of whose rows room is made at once. A name that a live document
+/// before has is damage at its place. After an error some of the level's names are noted.
 pub(crate) fn note_names(
     alloc: Global,
-    names: &mut HashMap<String, u64>,
+    names: &mut NameTable,
     deleted: &[Loc],
+    levels: &[OpenLevel],
     level: &OpenLevel,
 ) -> Result<(), LoadFault>
-    requires { IsRising deleted.now }
-    ensures found { (live : List Named) → AreNames names.old live → OnOk result (names_from deleted.now level.now live 0 level.now.documents ≡ Ok (live ++ live_in deleted.now level.now.documents)) }
-    ensures names { (live : List Named) → AreNames names.old live → OnOk result (AreNames names.new (live ++ live_in deleted.now level.now.documents)) }
-    ensures second { (live : List Named) → AreNames names.old live → (place : ℕ) → result ≡ Err (Damaged place) → names_from deleted.now level.now live 0 level.now.documents ≡ Err place }
+    requires rising { IsRising deleted.now }
+    requires names { AreNames names.old (live_in deleted.now (table_rows levels.now)) }
+    ensures found { OnOk result (names_in deleted.now levels.now level.now ≡ Ok (live_behind deleted.now levels.now level.now.documents)) }
+    ensures names { OnOk result (AreNames names.new (live_behind deleted.now levels.now level.now.documents)) }
+    ensures second { (place : ℕ) → result ≡ Err (Damaged place) → names_in deleted.now levels.now level.now ≡ Err place }
     ensures disk { result ≢ Err DiskFault }
 {
     let rows = level.documents();
-    make_room(names, rows.len())?;
+    names.reserve(rows.len())?;
     for (i, row) in rows.iter().enumerate() {
-        if !join(alloc, names, deleted, row)? {
+        if !join(alloc, names, deleted, levels, &rows[..i], row)? {
             return Err(LoadFault::Damaged(level.name_place(i)));
         }
     }

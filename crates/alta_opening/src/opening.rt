@@ -18,10 +18,10 @@ use crate::levels::read_levels;
 use crate::list::read_list;
 use alta_codec::Loc;
 use alta_disk::{Disk, LoadFault};
+use alta_names::NameTable;
 use alta_root::Root;
 use alta_table::OpenLevel;
 use std::alloc::Global;
-use std::collections::HashMap;
 
 /// What a root names, opened: all but its journal.
 #[derive(Drop)]
@@ -31,7 +31,7 @@ pub struct OpenLevels {
     /// Head and tables of each level, the oldest first.
     pub levels: Vec<OpenLevel>,
     /// The numbers of the levels' live documents by their names.
-    pub names: HashMap<String, u64>,
+    pub names: NameTable,
 }
 
 /// Opens what the counting root names, in this order: the deletion list; of each level, the oldest first, its head and tables, its

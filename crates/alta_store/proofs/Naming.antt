@@ -1,10 +1,8 @@
 -- What a store knows of names, once a flush has made room.
-use Rattle.std.proofs.Common.{◌≡◌, ℕ, true, List, ◌++◌, sym, ◌∙◌, subst}
+use Rattle.std.proofs.Common.{◌≡◌, ℕ, true, List, sym, subst}
 use Rattle.std.specs.Prelude.{Some}
-use Rattle.alta_catalog.specs.Rows.{documents_left}
 use Rattle.alta_catalog.proofs.KnowingLaws.{named_some}
-use Rattle.alta_catalog.proofs.KnownLaws.{one_known}
-use Rattle.alta_catalog.proofs.Naming.{number_known}
+use Rattle.alta_catalog.proofs.KnownLaws.{number_alike as same_number, one_known}
 use Rattle.alta_meaning.specs.Entries.{Allows}
 use Rattle.alta_meaning.specs.Known.{Known, admits}
 use Rattle.alta_machine.specs.Changes.{has_number, number_of, with_deleted, without}
@@ -21,13 +19,10 @@ module _ (store : Store) (t : State) (known : Knows store t) (s : State) (knows 
 
   -- a name has the same number in each
   pub number_alike : (name : List ℕ) → number_of name s ≡ number_of name t
-  number_alike name =
-      number_known store.catalog.next store.catalog.names (documents_left store.catalog.gone (knows.olds ++ knows.added)) s knows.notes name
-      ∙ sym (number_known store.catalog.next store.catalog.names (documents_left store.catalog.gone (known.olds ++ known.added)) t known.notes name)
+  number_alike = same_number store.catalog s t knows known
 
 -- a document with this name is live by its number, and left out by it
 pub named_at : (store : Store) (s : State) → Knows store s → (name : List ℕ) (number : ℕ) → number_of name s ≡ Some number → (has_number number s ≡ true) × (without number s ≡ with_deleted name s)
 named_at store s knows name number is =
-    let both = named_some store.catalog s knows name (Some number)
-    (sym is ∙ number_known store.catalog.next store.catalog.names (documents_left store.catalog.gone (knows.olds ++ knows.added)) s knows.notes name) in
+    let both = named_some store.catalog s knows name (Some number) (sym is) in
     (both.1, both.2)

@@ -38,11 +38,11 @@ use alta_joins::Job;
 use alta_journal::{Placed, Tail, replay};
 use alta_layout::Slot;
 use alta_memlevel::MemLevel;
+use alta_names::NameTable;
 use alta_opening::{OpenLevels, open_levels};
 use alta_root::{Root, read_roots};
 use alta_table::OpenLevel;
 use std::alloc::{AllocError, Global};
-use std::collections::HashMap;
 
 /// What is known of the documents of an index, the root that counts, where its journal goes on, and a join of its two oldest levels.
 #[derive(Drop)]
@@ -100,8 +100,8 @@ impl Store {
         self.catalog.counts()
     }
 
-    /// The names of the live documents with their numbers, in the order of bytes, each once. They are kept by their hashes and so in no
-    /// order: one pass over them, a copy of each, and then a sort of the copies.
+    /// The names of the live documents with their numbers, in the order of bytes, each once: one pass over the rows, a copy of each name,
+    /// and then a sort of the copies.
     ///
     /// # Errors
     ///
@@ -204,7 +204,7 @@ fn catalog_of(
     root: &Root,
     levels: Vec<OpenLevel>,
     deleted: &[Loc],
-    names: HashMap<String, u64>,
+    names: NameTable,
     found: &[Placed],
 ) -> Result<Catalog, CatalogFault>
     requires sound { (size : ℕ) × IsSound size root.now }

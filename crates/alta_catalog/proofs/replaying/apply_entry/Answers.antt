@@ -1,6 +1,6 @@
 use Rattle.std.proofs.Common.{◌≡◌, List, ℕ, ap, subst, sym, ◌∙◌, Ok}
 use Rattle.alta_journal.specs.declared.entry.Entry.{Entry}
-use Rattle.alta_journal.specs.declared.entry.Entry.TheVariants.{Add, Delete, Replace}
+use Rattle.alta_journal.specs.declared.entry.Entry.TheVariants.{Add, Replace}
 use Rattle.alta_catalog.specs.Applying.{Applies}
 use Rattle.alta_catalog.proofs.EntryLaws.{deleted}
 use Rattle.alta_catalog.proofs.replaying.apply_entry.Goals as goal

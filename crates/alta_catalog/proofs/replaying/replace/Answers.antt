@@ -8,6 +8,7 @@ use Rattle.alta_content.specs.Rows.{ends_among}
 use Rattle.alta_journal.specs.declared.entry.Entry.TheVariants.{Replace}
 use Rattle.alta_catalog.proofs.EntryLaws.{applied, not_applied}
 use Rattle.alta_catalog.proofs.FollowLaws.{follows_replaced}
+use Rattle.alta_catalog.proofs.KnownLaws.{name_alike}
 use Rattle.alta_catalog.proofs.replaying.replace.Goals as goal
 
 pub returns-then-not-has_room : goal.returns-then-not-has_room
@@ -29,7 +30,7 @@ add-requires-clause-free c = λ other known.
     let (s, knows) = c.requires.knows in
     let named : has_named c.args.name.now c.args.number s ≡ true = sym (c.if-not-has_name_with.ensures s knows) in
     let then = (c.in_ok-remove.ensures.removed s knows).0 in
-    sym (known.notes.names c.args.name.now) ∙ then.notes.names c.args.name.now
+    name_alike _ other (without c.args.number s) known then c.args.name.now
     ∙ named_free c.args.name.now c.args.number s (is_state s knows.notes.ordered (omega (arith, knows.next, knows.from.0, knows.notes.next))) named
 
 pub add-requires-clause-left : goal.add-requires-clause-left

@@ -1,6 +1,8 @@
 use Rattle.std.proofs.Common.{◌≡◌, ◌+◌, ◌-◌, ℕ, List, length, refl, ap, arith, ◌∙◌, sym}
 use Rattle.alta_content.specs.declared.document.DocRow.{DocRow}
+use Rattle.alta_catalog.specs.Knowing.{numbers_in}
 use Rattle.alta_catalog.proofs.FollowLaws.{follows_added}
+use Rattle.alta_catalog.proofs.NotingLaws.{no_number}
 use Rattle.alta_catalog.proofs.KnowingLaws.{bounded, ends_before, knows_added, made_added, numbers_before}
 use Rattle.alta_catalog.proofs.catalog.Catalog.add.Goals as goal
 
@@ -24,7 +26,8 @@ returns-clause-added c = λ s knows.
     ap (λ (n : ℕ). made n c.in_ok-of.field-0) long
     ∙ ap (made (length c.deref.result.now)) c.in_ok-of.ensures in
     knows_added c.args.self.now s knows _ c.args.name.now c.args.title.now c.args.body.now c.requires.named c.utf8.title c.utf8.body c.requires.short (c.requires.free s knows) (c.requires.left s knows)
-    c.deref.result.now (c.deref.ensures.value ∙ c.in_ok-cells.ensures.value) _ row_is c.in_ok-add.ensures.sound c.in_ok-add.ensures.added c.in_ok-note.ensures refl refl refl refl
+    c.deref.result.now (c.deref.ensures.value ∙ c.in_ok-cells.ensures.value) _ row_is c.in_ok-add.ensures.sound c.in_ok-add.ensures.added
+    (c.in_ok-note.ensures (numbers_in s) knows.notes.names (no_number s c.args.name.now (c.requires.free s knows))) refl refl refl refl
     (ap (λ (n : ℕ). c.args.self.now.location + n) long) refl (ap (λ (n : ℕ). c.args.self.now.words + (n - 3)) long)
 
 pub returns-clause-follows : goal.returns-clause-follows
