@@ -1,12 +1,8 @@
 -- The places of the cells of rows.
-use Rattle.std.proofs.Common.{◌≡◌, ℕ, zero, suc, ◌+◌, ◌-◌, ◌<◌, ◌≤◌, Bool, true, false, cond, leb, not, ◌&&◌, List, [], ◌∷◌, ◌++◌, length, map, take, get_or, refl, sym, ap, subst, ◌∙◌, arith, append-nil, append_assoc}
+use Rattle.std.proofs.Common.{◌≡◌, ℕ, zero, suc, ◌+◌, ◌<◌, ◌≤◌, Bool, true, false, cond, leb, not, ◌&&◌, List, [], ◌∷◌, ◌++◌, length, map, take, get_or, refl, sym, ap, ◌∙◌, arith, append-nil, append_assoc}
 use Rattle.std.specs.List.{All, range_with_len}
 use Rattle.std.proofs.lemmas.Bool.{le-leb}
-use Rattle.std.proofs.lemmas.List.{get_or_default}
 use Rattle.std.proofs.lemmas.List.Elements.{All-nil, All-cons, All-append, All-filter, All-get_or, All-head, All-tail}
-use Rattle.alta_codec.specs.declared.location.TheConstants.{TOP}
-use Rattle.alta_codec.specs.Rising.{IsRising}
-use Rattle.alta_compound.specs.Unions.{RisesAbove, above_from_rising, rising_from_above}
 use Rattle.alta_content.specs.Cells.{locations_from}
 use Rattle.alta_content.specs.Rows.{RowsRise, end_of, ends_among, live_rows}
 use Rattle.alta_content.specs.declared.document.DocRow.{DocRow}

@@ -42,7 +42,7 @@ impl Model for Places {
 impl Places {
     /// No places.
     pub fn new(alloc: Global) -> Places
-        ensures { result ≡ [] }
+        ensures empty { result ≡ [] }
     {
         Places {
             lasts: Vec::new(alloc),
@@ -53,7 +53,7 @@ impl Places {
 
     /// How many they are.
     pub fn len(&self) -> usize
-        ensures { result ≡ length self.now }
+        ensures count { result ≡ length self.now }
     {
         self.count
     }

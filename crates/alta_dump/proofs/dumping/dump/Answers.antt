@@ -1,8 +1,6 @@
 use Rattle.std.proofs.Common.{◌≡◌, ◌+◌, ℕ, List, [], map, get_or, ap, sym, subst, ◌∙◌, arith}
 use Rattle.std.specs.Prelude.{string_bytes}
-use Rattle.std.specs.List.{concat}
 use Rattle.alta_content.specs.Rows.{RowsRise}
-use Rattle.alta_gather.specs.Holding.{held_in}
 use Rattle.alta_search.specs.Lists.{count_lists, count_locations, term_lists}
 use Rattle.alta_search.specs.Told.{rows_at}
 use Rattle.alta_dump.specs.Shown.{places_of}

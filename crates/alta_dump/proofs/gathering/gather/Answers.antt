@@ -12,7 +12,7 @@ use Rattle.alta_dump.proofs.gathering.gather.Goals as goal
 
 pub loop-i-init : goal.loop-i-init
 loop-i-init g c = record {
-  held = held_none c.args.places.now (map concat (map term_lists c.args.terms.now)) c.in_ok-held.held.items (c.in_ok-held.ensures.long ∙ c.len.ensures) c.in_ok-held.ensures.never;
+  held = held_none c.args.places.now (map concat (map term_lists c.args.terms.now)) c.in_ok-held.held.items (c.in_ok-held.ensures.long ∙ c.len.ensures.count) c.in_ok-held.ensures.never;
   steps = omega arith;
 }
 
