@@ -31,6 +31,7 @@ use Rattle.alta_replies.specs.Loading.{Loads, LoadsMarked, MarkHolds, Queries, l
 use Rattle.alta_store.specs.Answers.{of_load, AnswersFault, IsOutside}
 use Rattle.alta_machine.specs.Machine.{IsRefusal}
 use Rattle.alta_machine.specs.Searching.{IsNoQuery}
+use Rattle.alta_journal.specs.Journal.{StandsAhead}
 use Rattle.alta_store.specs.Agreement.{Agrees, GoesOnOver, KeepsOpened, levels_of}
 use Rattle.alta_store.specs.declared.fault.StoreFault.{StoreFault}
 use Rattle.alta_store.specs.declared.fault.StoreFault.TheVariants.{Disk, Memory, Damaged}
@@ -179,6 +180,7 @@ agrees_read tells bytes d e store lawful agrees reads = record {
   content = λ tell. subst (KeepsOpened store) (sym (reads.content tell)) (agrees.content tell);
   intact = agrees.intact;
   joins = λ tell. subst (λ (image : List ℕ). GoesOnOver image (levels_of store) (gone_of store.catalog) store.job agrees.intact.joining) (sym (reads.content tell)) (agrees.joins tell);
+  ahead = λ tell. subst (StandsAhead store.tail.place store.ahead) (sym (reads.content tell)) (agrees.ahead tell);
 }
 
 -- ---- calls that answer a text

@@ -36,8 +36,8 @@ use Rattle.alta_joins.proofs.KeptLaws.{held_is_spaced}
 use Rattle.alta_journal.specs.declared.appending.JournalFault.{JournalFault}
 use Rattle.alta_journal.specs.declared.appending.JournalFault.TheVariants.{Disk as JournalDisk, Full as JournalFull}
 use Rattle.alta_journal.specs.Entry.{IsTyped, KeepTexts, KeepsRules, MayBeRecorded}
-use Rattle.alta_journal.specs.Journal.{Appended, Appends}
-use Rattle.alta_journal.specs.Places.{HasClosedGate}
+use Rattle.alta_journal.specs.Journal.{Appended, Appends, StandsAhead}
+use Rattle.alta_journal.specs.Places.{HasClosedGate, left_behind}
 use Rattle.alta_journal.specs.Record.{body_of, record_of}
 use Rattle.alta_journal.specs.declared.entry.Entry.{Entry}
 use Rattle.alta_journal.specs.declared.entry.Entry.TheVariants.{Add, Delete, Replace}
@@ -87,6 +87,10 @@ module _ (tells : Type 0) (a : DiskState) (lawful : IsLawful tells a) (store : S
       let held = agrees.content told in
       subst (λ (place : ℕ). HasClosedGate place a.content) (sym held.keeps.place)
       (ends_closed held.opened.root.version (half_start held.opened.slot) held.opened.tail held.opened.entries a.content (journal_fits held.opened.slot) held.is.named.journal))
+
+  -- and its body may stand there
+  pub ahead : Stands tells a (StandsAhead store.tail.place store.ahead)
+  ahead = stands_only tells a (StandsAhead store.tail.place store.ahead) lawful agrees.settled agrees.ahead
 
   -- one entry more, which each state that the store knows allows, and for which there is room
   module _ (entry : Entry) (keeps_rules : KeepsRules entry) (typed : IsTyped entry) (allowed : (s : State) → Knows store s → Allows s entry) (room : needs_room store entry ≡ false) where
@@ -206,7 +210,8 @@ module _ (tells : Type 0) (a : DiskState) (lawful : IsLawful tells a) (store : S
             (half_is : later.tail.slot ≡ store.tail.slot) (job_is : later.job ≡ store.job) (sound_is : later.sound ≡ store.sound) (levels_are : levels_of later ≡ levels_of store)
             (still : (row : DocRow) → ends_among (gone_of store.catalog) row ≡ true → ends_among (gone_of later.catalog) row ≡ true)
             (follows : (root : Root) (entries : List Entry) → Follows store.catalog root entries → Follows later.catalog root (entries ++ entry ∷ []))
-            (knows : (s : State) → (k : Knows store s) → KnowsBy later.catalog k.olds (after_entry s entry)) where
+            (knows : (s : State) → (k : Knows store s) → KnowsBy later.catalog k.olds (after_entry s entry))
+            (stands_ahead : tells → StandsAhead later.tail.place later.ahead b.content) where
           keeps_more : (told : tells) (o : Opened) → IsOpened o a.content → Keeps later (with_entry o entry)
           keeps_more told o is =
               let keeps = kept store a.content (agrees.content told) o is in
@@ -231,9 +236,10 @@ module _ (tells : Type 0) (a : DiskState) (lawful : IsLawful tells a) (store : S
           same_levels told =
               let holds = agrees.content told in
               let o = holds.opened in
-              let range : List (ℕ × ℕ) = (o.tail, 1 + length (body_of entry)) ∷ [] in
+              let n = 1 + left_behind (half_start o.slot) o.tail in
+              let range : List (ℕ × ℕ) = (o.tail, n) ∷ [] in
               let touches = appends_touch o.root.version (half_start o.slot) o.tail entry a.content b.content (here told o holds.is b.content (step told)) in
-              let clear = extents_clear o.tail (1 + length (body_of entry)) (length a.content) o.root (omega (arith, journal_fits o.slot, (may told o holds.is).fits)) (counts_sound o.slot o.root a.content holds.is.counts) in
+              let clear = extents_clear o.tail n (length a.content) o.root (omega (arith, journal_fits o.slot, (may told o holds.is).fits)) (counts_sound o.slot o.root a.content holds.is.counts) in
               subst (λ (levels : List Tables). All (IsSame a.content b.content) (map extent_of levels)) (sym holds.keeps.levels)
               (subst (All (IsSame a.content b.content)) (sym holds.keeps.extents)
               (All-tail (IsSame a.content b.content) o.root.deletions o.root.levels.items (extents_same range a.content b.content (extents_of o.root) touches clear)))
@@ -266,6 +272,7 @@ module _ (tells : Type 0) (a : DiskState) (lawful : IsLawful tells a) (store : S
               joining = going.0;
             };
             joins = λ told. going.1 b.content (goes_on_there a.content b.content (levels_of store) (gone_of store.catalog) store.job agrees.intact.joining (same_levels told) (agrees.joins told));
+            ahead = stands_ahead;
           }
 
           -- what is held has the entry

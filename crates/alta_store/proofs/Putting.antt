@@ -40,6 +40,8 @@ use Rattle.alta_meaning.proofs.KeptStates.{rows_by_levels, stay_contents}
 use Rattle.alta_meaning.proofs.Tests.{by_test, filter_drop, filter_keep}
 use Rattle.alta_meaning.proofs.Untouched.{IsSame}
 use Rattle.alta_joins.specs.Jobs.{DeadAreGone}
+use Rattle.alta_journal.specs.Journal.{StandsAhead}
+use Rattle.alta_journal.specs.Record.{Record}
 use Rattle.alta_journal.specs.declared.entry.Entry.{Entry}
 use Rattle.alta_memlevel.specs.Added.{Added, HasContent}
 use Rattle.alta_memlevel.specs.Documents.{IsBefore}
@@ -451,7 +453,7 @@ module _ (tells : Type 0) (a b : DiskState) (lawful_a : IsLawful tells a) (lawfu
               subst (KnowsBy later.catalog olds) (sym state_is) knows;
         }
 
-    module _ (durable : Only b.content b.images) (costs : Costs 1 a b) (passes : Passes (λ old new. ⊤) a b) (stands : (held : Holding) → (tells → MayRewrite held levels ends next location a.content) → LeavesOnly (StandsFor (state_of held.view)) a b)
+    module _ (none_ahead : later.ahead ≡ None) (durable : Only b.content b.images) (costs : Costs 1 a b) (passes : Passes (λ old new. ⊤) a b) (stands : (held : Holding) → (tells → MayRewrite held levels ends next location a.content) → LeavesOnly (StandsFor (state_of held.view)) a b)
         (works : (held : Holding) → (job : Option Job) → tells → MayRewrite held levels ends next location a.content → (then : Holding) × IsRewritten a.limit now.slot held levels job then done b.content)
         (opened_then : (o : Opened) → (there : List Level) → tells → MayRewriteOpened o there levels ends next location a.content → (coming : Opened) × IsRewrittenOpened a.limit o coming levels ends next location done b.content)
         (opens : (o : Opened) → (there : List Level) → (tells → MayRewriteOpened o there levels ends next location a.content) → LeavesOnly (MayBecome a.limit o levels ends next location) a b) where
@@ -469,6 +471,7 @@ module _ (tells : Type 0) (a b : DiskState) (lawful_a : IsLawful tells a) (lawfu
             record { opened = come.0; is = come.1.is; keeps = keeps_then told holds.opened come.0 holds.is come.1 };
         intact = intact_then;
         joins = going.1;
+        ahead = λ told. subst (λ (o : Option Record). StandsAhead later.tail.place o b.content) (sym none_ahead) refl;
       }
 
       pub put_done : (u : Unit {0}) → Puts tells levels a b before later (Ok u)

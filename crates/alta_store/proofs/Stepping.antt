@@ -62,6 +62,8 @@ with_join store merging = record {
   tail = store.tail;
   catalog = store.catalog;
   job = Some merging;
+  ahead = store.ahead;
+  guess = store.guess;
   sound = store.sound;
 }
 
@@ -75,6 +77,8 @@ without_join store = record {
   tail = store.tail;
   catalog = store.catalog;
   job = None;
+  ahead = store.ahead;
+  guess = store.guess;
   sound = store.sound;
 }
 
@@ -118,6 +122,7 @@ module _ (tells : Type 0) (a : DiskState) (lawful : IsLawful tells a) (store : S
           joining = on.0;
         };
         joins = λ told. on.2 a.content (join.over told);
+        ahead = agrees.ahead;
       }
 
   -- what is held then

@@ -19,6 +19,7 @@ use Rattle.alta_merge.specs.Merging.{Merging}
 use Rattle.alta_machine.specs.declared.document.State.{State}
 use Rattle.alta_rewrite.specs.Rewrites.{levels_to_come}
 use Rattle.alta_rewrite.specs.declared.levels.NextLevels.{NextLevels}
+use Rattle.alta_journal.specs.Journal.{StandsAhead}
 use Rattle.alta_store.specs.Agreement.{Agrees, GoesOnOver, Has, KeepsOpened, IsJobIn, Keeps, MaySpeakOf, MaySpeakOfEither, levels_of}
 use Rattle.alta_catalog.specs.Knowing.{gone_of}
 use Rattle.alta_store.specs.Calls.{Changes, HaveLists, IsNarrow, IsRewrite, IsWork, NoRefusal}
@@ -168,6 +169,7 @@ module _ (tells : Type 0) (a b : DiskState) (lawful_a : IsLawful tells a) (lawfu
     content = λ told. subst (KeepsOpened store) (sym (reads.content told)) (agrees.content told);
     intact = agrees.intact;
     joins = λ told. subst (λ (image : List ℕ). GoesOnOver image (levels_of store) (gone_of store.catalog) store.job agrees.intact.joining) (sym (reads.content told)) (agrees.joins told);
+    ahead = λ told. subst (StandsAhead store.tail.place store.ahead) (sym (reads.content told)) (agrees.ahead told);
   }
 
   images_read : (s : State) → (tells → StandsFor s a.content) → LeavesOnly (StandsForEither s s) a b

@@ -10,6 +10,7 @@ use Rattle.alta_meaning.specs.Holding.{Holding, IsHeld, IsWell}
 use Rattle.alta_meaning.specs.Opened.{Opened, IsOpened, table_rows, extent_of}
 use Rattle.alta_meaning.specs.Work.{Job}
 use Rattle.alta_joins.specs.Jobs.{AreJoinedOn, IsJoining, IsMerging}
+use Rattle.alta_journal.specs.Journal.{StandsAhead}
 use Rattle.alta_journal.specs.Places.{left_behind}
 use Rattle.alta_journal.specs.declared.entry.Entry.{Entry}
 use Rattle.alta_merge.specs.Merging.{Merging}
@@ -79,12 +80,14 @@ pub record IsIntact (store : Store) : Type 0 where
   pub extents : map extent_of (levels_of store) ≡ store.root.levels.items
   pub joining : MayGoOn (levels_of store) (gone_of store.catalog) store.job
 
--- Store and disk agree: nothing is pending, the store goes on with what the content is opened as, and joins what is there.
+-- Store and disk agree: nothing is pending, the store goes on with what the content is opened as, and joins what is there. Where a body
+-- was written ahead, it stands behind the closed gate of the journal.
 pub record Agrees (tells : Type 0) (disk : DiskState) (store : Store) : Type 0 where
   pub settled : Only disk.content disk.images
   pub content : tells → KeepsOpened store disk.content
   pub intact : IsIntact store
   pub joins : tells → GoesOnOver disk.content (levels_of store) (gone_of store.catalog) store.job intact.joining
+  pub ahead : tells → StandsAhead store.tail.place store.ahead disk.content
 
 -- ---- what is held
 

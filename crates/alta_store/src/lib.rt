@@ -4,6 +4,7 @@
 mod entries;
 mod fault;
 mod formatting;
+mod guess;
 mod laws;
 mod opening;
 mod store;

@@ -30,12 +30,13 @@ ghost use Rattle.alta_store.specs.declared.fault.StoreFault.TheVariants.{Disk as
 
 use crate::StoreFault;
 use crate::fault::{catalog_fault, load_fault, root_fault};
+use crate::guess::Guess;
 use alta_catalog::{Catalog, CatalogFault, Names, apply_entries};
 use alta_codec::Loc;
 use alta_content::AllRows;
 use alta_disk::Disk;
 use alta_joins::Job;
-use alta_journal::{Placed, Tail, replay};
+use alta_journal::{Placed, Ready, Tail, replay};
 use alta_layout::Slot;
 use alta_memlevel::MemLevel;
 use alta_names::NameTable;
@@ -56,6 +57,9 @@ pub struct Store {
     pub(crate) catalog: Catalog,
     // A join of the two oldest levels that goes on.
     pub(crate) job: Option<Job>,
+    // The record whose body stands behind the closed gate at the tail.
+    pub(crate) ahead: Option<Ready>,
+    pub(crate) guess: Guess,
     pub(crate) sound: bool,
 }
 
@@ -153,6 +157,7 @@ fn load<D: Disk>(alloc: Global, disk: &mut D) -> Result<Store, StoreFault>
     ensures intact { IfOk result IsIntact }
     ensures sound { IfOk result (λ store. is_sound store ≡ true) }
     ensures job { IfOk result (λ store. store.job ≡ None) }
+    ensures ahead { IfOk result (λ store. store.ahead ≡ None) }
     ensures limit { OnOk result (HEAD_BYTES ≤ (D.state disk.old).limit) }
     ensures no_root { D.tells → result ≡ Err NoRoot → HasNoRoot (D.state disk.old).content }
     ensures damaged { D.tells → (place : ℕ) → result ≡ Err (Damaged place) → IsBrokenAt (D.state disk.old).content place }
@@ -192,6 +197,8 @@ fn load<D: Disk>(alloc: Global, disk: &mut D) -> Result<Store, StoreFault>
             tail,
             catalog,
             job: None,
+            ahead: None,
+            guess: Guess::none(),
             sound: true,
         }),
         Err(fault) => Err(catalog_fault(fault)),

@@ -325,6 +325,7 @@ impl Store {
             Err(fault) => return Err(rewrite_fault(fault)),
         };
         self.catalog.put_levels(prepared, done.oldest, done.newest);
+        self.ahead = None;
         self.tail = tail_of(done.slot);
         self.slot = done.slot;
         self.root = done.root;

@@ -1,12 +1,13 @@
 use Rattle.std.proofs.Common.{◌≡◌, ◌+◌, ◌≤◌, length, refl, sym, subst}
 use Rattle.alta_layout.specs.Places.{half_start}
-use Rattle.alta_disk.specs.Disk.{Passes}
+use Rattle.std.specs.Prelude.{Option}
+use Rattle.alta_disk.specs.Disk.{Passes, Stands}
 use Rattle.alta_journal.specs.Entry.{MayBeRecorded}
-use Rattle.alta_journal.specs.Journal.{Appended, Appends}
-use Rattle.alta_journal.specs.Record.{body_of, record_of}
+use Rattle.alta_journal.specs.Journal.{Appended, Appends, StandsAhead}
+use Rattle.alta_journal.specs.Record.{Record, body_of, record_of}
 use Rattle.alta_journal.specs.declared.entry.Entry.{Entry}
 use Rattle.alta_store.specs.Agreement.{room_of}
-use Rattle.alta_store.proofs.Commits.{ap_err, closed, enters_failed, enters_ok, never_full}
+use Rattle.alta_store.proofs.Commits.{ahead, ap_err, closed, enters_failed, enters_ok, never_full}
 use Rattle.alta_store.proofs.Room.{may_record, raised_not, short_of}
 use Rattle.alta_store.proofs.store.Store.commit.Goals as goal
 
@@ -24,26 +25,32 @@ unreachable-requires g c =
     let intact = c.requires.agrees.intact in
     c.in-Ok-false.ensures.refused intact.state intact.knows c.in-Ok-false.field-0-test (c.requires.allowed intact.state intact.knows)
 
-pub append-requires-clause-closed : goal.append-requires-clause-closed
-append-requires-clause-closed g c =
+pub append_ahead-requires-clause-closed : goal.append_ahead-requires-clause-closed
+append_ahead-requires-clause-closed g c =
     closed g.D.Disk.tells (g.D.Disk.state c.args.disk.now) (g.met.D.Disk.lawful c.args.disk.now) c.args.self.now c.requires.agrees
+
+pub append_ahead-requires-clause-stands : goal.append_ahead-requires-clause-stands
+append_ahead-requires-clause-stands g c =
+    subst (λ (o : Option Record). Stands g.D.Disk.tells (g.D.Disk.state c.args.disk.now) (StandsAhead c.args.self.now.tail.place o)) (sym c.take-ahead.ensures.value)
+    (ahead g.D.Disk.tells (g.D.Disk.state c.args.disk.now) (g.met.D.Disk.lawful c.args.disk.now) c.args.self.now c.requires.agrees)
 
 pub returns-in-Ok-clause-enters : goal.returns-in-Ok-clause-enters
 returns-in-Ok-clause-enters g c = λ step steps.
     let store = c.args.self.now in
     let entry = c.args.entry.now in
     let a = g.D.Disk.state c.args.disk.now in
-    let b = g.D.Disk.state c.append.new.disk in
+    let b = g.D.Disk.state c.append_ahead.new.disk in
     let version = store.root.version in
     let may = may_record version entry c.requires.rules c.requires.typed (raised_not store entry c.requires.room) in
     let start = half_start store.tail.slot in
     let place = store.tail.place in
     let is = c.requires.ready in
     enters_ok g.D.Disk.tells a (g.met.D.Disk.lawful c.args.disk.now) store c.requires.agrees entry c.requires.rules c.requires.typed c.requires.allowed c.requires.room
-    b (subst (λ (e : Entry). Passes (Appends version start place e) a b) is (c.in-Ok.ensures.images version (subst (MayBeRecorded version) (sym is) may))) (g.met.D.Disk.lawful c.append.new.disk) c.in-Ok.ensures.durable
+    b (subst (λ (e : Entry). Passes (Appends version start place e) a b) is (c.in-Ok.ensures.images version (subst (MayBeRecorded version) (sym is) may))) (g.met.D.Disk.lawful c.append_ahead.new.disk) c.in-Ok.ensures.durable
     (λ told. subst (λ (e : Entry). Appended version start place e a.content b.content) is (c.in-Ok.ensures.appended version (subst (MayBeRecorded version) (sym is) may) told))
-    _ refl refl refl (subst (λ (e : Entry). c.append.new.tail.place ≡ place + length (record_of e)) is c.in-Ok.ensures.tail) c.in-Ok.ensures.slot refl refl c.apply_entry.ensures.levels c.in-Ok-true.ensures.still
+    _ refl refl refl (subst (λ (e : Entry). c.append_ahead.new.tail.place ≡ place + length (record_of e)) is c.in-Ok.ensures.tail) c.in-Ok.ensures.slot refl refl c.apply_entry.ensures.levels c.in-Ok-true.ensures.still
     (λ root entries follows. c.in-Ok-true.ensures.follows root entries follows c.in-Ok-true.field-0-test) (λ s knows. (c.in-Ok-true.ensures.allowed s knows c.in-Ok-true.field-0-test).1)
+    c.in-Ok.ensures.stands.content
     step steps _ c.in-Ok.ensures.costs
 
 pub unreachable-requires-in-Err-Full : goal.unreachable-requires-in-Err-Full
@@ -56,7 +63,7 @@ returns-in-Err-Disk-clause-enters g c = λ step steps.
     let store = c.args.self.now in
     let entry = c.args.entry.now in
     let a = g.D.Disk.state c.args.disk.now in
-    let b = g.D.Disk.state c.append.new.disk in
+    let b = g.D.Disk.state c.append_ahead.new.disk in
     let version = store.root.version in
     let may = may_record version entry c.requires.rules c.requires.typed (raised_not store entry c.requires.room) in
     let start = half_start store.tail.slot in

@@ -1,4 +1,7 @@
-use Rattle.std.proofs.Common.{◌≡◌, None, List, ℕ, inr, subst, sym, ap, arith, ◌∙◌, ◌≤◌}
+use Rattle.std.proofs.Common.{◌≡◌, None, List, ℕ, inr, refl, subst, sym, ap, arith, ◌∙◌, ◌≤◌}
+use Rattle.std.specs.Prelude.{Option}
+use Rattle.alta_journal.specs.Journal.{StandsAhead}
+use Rattle.alta_journal.specs.Record.{Record}
 use Rattle.alta_layout.specs.declared.places.TheConstants.{HEAD_BYTES}
 use Rattle.alta_catalog.specs.Knowing.{gone_of}
 use Rattle.alta_opening.specs.Costs.{named_bytes}
@@ -26,6 +29,7 @@ returns-clause-agrees g c =
       intact = IfOk-at_ok IsIntact is c.load.ensures.intact;
       joins = λ told.
           none_goes_on (g.D.Disk.state c.load.new.disk).content (levels_of store) (gone_of store.catalog) store.job (IfOk-at_ok IsIntact is c.load.ensures.intact).joining (IfOk-at_ok (λ (s : Store). s.job ≡ None) is c.load.ensures.job);
+      ahead = λ told. subst (λ (o : Option Record). StandsAhead store.tail.place o (g.D.Disk.state c.load.new.disk).content) (sym (IfOk-at_ok (λ (s : Store). s.ahead ≡ None) is c.load.ensures.ahead)) refl;
     })
 
 pub returns-clause-keeps : goal.returns-clause-keeps

@@ -36,7 +36,7 @@ returns-clause-puts g c = λ before may.
     (all_documents before may.agrees.intact) c.in-Ok-rewrite.done _ refl refl (sym c.deref-2.ensures.value) c.tail_of-self.ensures.0 c.tail_of-self.ensures.1 refl refl
     c.in-Ok-rewrite.ensures.answers.counts.1 c.in-Ok-rewrite.ensures.answers.counts.2 c.in-Ok-rewrite.ensures.answers.rows c.in-Ok-rewrite.ensures.answers.extents c.in-Ok-rewrite.ensures.answers.none c.in-Ok-rewrite.ensures.disk.spared
     c.put_levels.ensures.same c.put_levels.ensures.levels c.put_levels.ensures.gone c.put_levels.ensures.follows c.put_levels.ensures.knows
-    c.in-Ok-rewrite.ensures.disk.durable c.rewrite.ensures.disk.costs c.rewrite.ensures.disk.images c.rewrite.ensures.held.stands c.in-Ok-rewrite.ensures.held.works c.in-Ok-rewrite.ensures.opened.opened_then c.rewrite.ensures.opened.opened _
+    refl c.in-Ok-rewrite.ensures.disk.durable c.rewrite.ensures.disk.costs c.rewrite.ensures.disk.images c.rewrite.ensures.held.stands c.in-Ok-rewrite.ensures.held.works c.in-Ok-rewrite.ensures.opened.opened_then c.rewrite.ensures.opened.opened _
 
 pub returns-in_default-from_slice-clause-puts : goal.returns-in_default-from_slice-clause-puts
 returns-in_default-from_slice-clause-puts g c = λ before may.
