@@ -1,8 +1,9 @@
 -- What the bytes of a half say: entries up to a closed gate, or a first record that breaks a rule.
-use Rattle.std.specs.Prelude.{◌≡◌, ◌≢◌, ◌⊎◌, ℕ, ◌+◌, ◌-◌, ◌≤◌, ◌<◌, List, [], ◌∷◌, ◌++◌, length, take, get_or, Option, Some, None}
+use Rattle.std.specs.Prelude.{◌≡◌, ◌≢◌, ◌⊎◌, ℕ, ◌+◌, ◌-◌, ◌≤◌, ◌<◌, List, [], ◌∷◌, ◌++◌, length, take, get_or, Option, Some, None, Result}
 use Rattle.std.specs.List.{All, flat_map}
 use Rattle.alta_layout.specs.declared.places.TheConstants.{GATE_OPEN, HEAD_BYTES}
-use Rattle.alta_disk.specs.Disk.{Torn}
+use Rattle.alta_disk.specs.Calls.{Charges}
+use Rattle.alta_disk.specs.Disk.{DiskState, Passes, Torn}
 use Rattle.alta_disk.specs.Parts.{part}
 use Rattle.alta_journal.specs.Entry.{MayBeRecorded}
 use Rattle.alta_journal.specs.Places.{half_at, left_behind, HasClosedGate}
@@ -51,6 +52,11 @@ bytes_ahead (Some ready) = body_of ready.entry
 -- it stands behind the gate at this place
 abbrev pub StandsAhead : ℕ → Option Record → List ℕ → Type 0
 StandsAhead place ahead image = HasBytes (place + 1) (bytes_ahead ahead) image
+
+-- Bytes are written from a place on: a stop leaves others there alone.
+pub record Puts {T E : Type 0} (at count : ℕ) (old new : DiskState) (result : Result T E) : Type 0 where
+  pub images : Passes (Torn at count) old new
+  pub charges : Charges 0 old new result
 
 -- The length of the record whose gate stands at `at` leaves no room in the half for the next gate.
 abbrev pub LeavesNoRoom : ℕ → List ℕ → Type 0

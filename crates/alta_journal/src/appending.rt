@@ -10,7 +10,7 @@ ghost use Rattle.alta_journal.specs.declared.appending.JournalFault.TheVariants.
 ghost use Rattle.alta_journal.specs.Places.{left_behind, HasClosedGate};
 ghost use Rattle.alta_journal.specs.Entry.{MayBeRecorded};
 ghost use Rattle.alta_journal.specs.Record.{Record, record_of, body_of};
-ghost use Rattle.alta_journal.specs.Journal.{EndsAt, Appended, Appends, HasBytes, StandsAhead, bytes_ahead};
+ghost use Rattle.alta_journal.specs.Journal.{EndsAt, Appended, Appends, HasBytes, Puts, StandsAhead, bytes_ahead};
 
 use crate::{Ready, Tail};
 use alta_codec::Failed;
@@ -159,8 +159,7 @@ fn put_bodies<D: Disk>(
     ensures written { D.tells → OnOk result (Holds (D.state disk.old).content at (bytes.now ++ bytes_ahead next.now) (D.state disk.new).content) }
     ensures stands { OnOk result (Stands D.tells (D.state disk.new) (HasBytes at bytes.now)) }
     ensures next { D.tells → OnOk result (HasBytes (at + length bytes.now) (bytes_ahead next.now) (D.state disk.new).content) }
-    ensures images { Passes (Torn at (length bytes.now + length (bytes_ahead next.now))) (D.state disk.old) (D.state disk.new) }
-    ensures charges { Charges 0 (D.state disk.old) (D.state disk.new) result }
+    ensures puts { Puts at (length bytes.now + length (bytes_ahead next.now)) (D.state disk.old) (D.state disk.new) result }
 {
     put_body(disk, at, bytes, ahead)?;
     put_next(disk, at + bytes.len() as u64, next)
@@ -178,8 +177,7 @@ fn put_body<D: Disk>(
     requires stands { Stands D.tells (D.state disk.old) (HasBytes at (bytes_ahead ahead)) }
     ensures written { D.tells → OnOk result (Holds (D.state disk.old).content at bytes.now (D.state disk.new).content) }
     ensures stands { OnOk result (Stands D.tells (D.state disk.new) (HasBytes at bytes.now)) }
-    ensures images { Passes (Torn at (length bytes.now)) (D.state disk.old) (D.state disk.new) }
-    ensures charges { Charges 0 (D.state disk.old) (D.state disk.new) result }
+    ensures puts { Puts at (length bytes.now) (D.state disk.old) (D.state disk.new) result }
 {
     if is_of(&ahead, bytes) {
         return Ok(());
@@ -202,8 +200,7 @@ fn put_next<D: Disk>(disk: &mut D, at: u64, next: &Option<Ready>) -> Result<(), 
     requires inside { D.tells → at ≤ length (D.state disk.old).content }
     requires fits { at + length (bytes_ahead next.now) ≤ (D.state disk.old).limit }
     ensures written { D.tells → OnOk result (Holds (D.state disk.old).content at (bytes_ahead next.now) (D.state disk.new).content) }
-    ensures images { Passes (Torn at (length (bytes_ahead next.now))) (D.state disk.old) (D.state disk.new) }
-    ensures charges { Charges 0 (D.state disk.old) (D.state disk.new) result }
+    ensures puts { Puts at (length (bytes_ahead next.now)) (D.state disk.old) (D.state disk.new) result }
 {
     match next {
         None => Ok(()),

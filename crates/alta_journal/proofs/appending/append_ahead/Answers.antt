@@ -24,13 +24,13 @@ returns-in_err-put_bodies-clause-images g c = λ version sound.
     let n = length c.bytes-bytes.result.now + length (bytes_ahead c.fitting-coming.result) in
     let to : c.args.tail.now.place + 1 + length (body_of c.args.ready.now.entry) ≤ half_start c.args.tail.now.slot + HALF_BYTES = omega (arith, ap length same) in
     let fits : c.args.tail.now.place + 1 + n ≤ half_start c.args.tail.now.slot + HALF_BYTES = omega (arith, c.fitting-coming.ensures.fits) in
-    bodies_pass version _ _ _ sound c.args.tail.now.starts to (start_fits _) n fits _ _ c.requires.closed.images c.put_bodies.ensures.images
+    bodies_pass version _ _ _ sound c.args.tail.now.starts to (start_fits _) n fits _ _ c.requires.closed.images c.put_bodies.ensures.puts.images
 
 pub returns-in_err-put_bodies-clause-outside : goal.returns-in_err-put_bodies-clause-outside
 returns-in_err-put_bodies-clause-outside g c =
     let n = length c.bytes-bytes.result.now + length (bytes_ahead c.fitting-coming.result) in
     let wide : 1 + n ≤ 1 + (length (body_of c.args.ready.now.entry) + length (bytes_ahead c.args.next)) = omega (arith, ap length c.bytes-bytes.ensures.bytes, no_longer _ _ c.fitting-coming.ensures.is) in
-    passes_wide _ (1 + n) _ _ _ wide (bodies_outside _ n _ _ c.put_bodies.ensures.images)
+    passes_wide _ (1 + n) _ _ _ wide (bodies_outside _ n _ _ c.put_bodies.ensures.puts.images)
 
 -- the gate leaves them with the new one or without
 pub returns-in_err-write_synced-clause-images : goal.returns-in_err-write_synced-clause-images
@@ -40,13 +40,13 @@ returns-in_err-write_synced-clause-images g c = λ version sound.
     let to : c.args.tail.now.place + 1 + length (body_of c.args.ready.now.entry) ≤ half_start c.args.tail.now.slot + HALF_BYTES = omega (arith, ap length same) in
     let fits : c.args.tail.now.place + 1 + n ≤ half_start c.args.tail.now.slot + HALF_BYTES = omega (arith, c.fitting-coming.ensures.fits) in
     let stands = subst (λ (l : List ℕ). Stands g.D.Disk.tells (g.D.Disk.state c.put_bodies.new.disk) (HasBytes (c.args.tail.now.place + 1) l)) same c.in_ok-put_bodies.ensures.stands in
-    gate_passes version _ _ _ sound c.args.tail.now.starts to (start_fits _) n fits _ _ c.requires.closed.images c.put_bodies.ensures.images _ stands.images c.write_synced.ensures.syncs.images
+    gate_passes version _ _ _ sound c.args.tail.now.starts to (start_fits _) n fits _ _ c.requires.closed.images c.put_bodies.ensures.puts.images _ stands.images c.write_synced.ensures.syncs.images
 
 pub returns-in_err-write_synced-clause-outside : goal.returns-in_err-write_synced-clause-outside
 returns-in_err-write_synced-clause-outside g c =
     let n = length c.bytes-bytes.result.now + length (bytes_ahead c.fitting-coming.result) in
     let wide : 1 + n ≤ 1 + (length (body_of c.args.ready.now.entry) + length (bytes_ahead c.args.next)) = omega (arith, ap length c.bytes-bytes.ensures.bytes, no_longer _ _ c.fitting-coming.ensures.is) in
-    passes_wide _ (1 + n) _ _ _ wide (gate_outside _ n _ _ c.put_bodies.ensures.images _ c.write_synced.ensures.syncs.images)
+    passes_wide _ (1 + n) _ _ _ wide (gate_outside _ n _ _ c.put_bodies.ensures.puts.images _ c.write_synced.ensures.syncs.images)
 
 pub returns-clause-images : goal.returns-clause-images
 returns-clause-images g c = λ version sound.
@@ -55,13 +55,13 @@ returns-clause-images g c = λ version sound.
     let to : c.args.tail.now.place + 1 + length (body_of c.args.ready.now.entry) ≤ half_start c.args.tail.now.slot + HALF_BYTES = omega (arith, ap length same) in
     let fits : c.args.tail.now.place + 1 + n ≤ half_start c.args.tail.now.slot + HALF_BYTES = omega (arith, c.fitting-coming.ensures.fits) in
     let stands = subst (λ (l : List ℕ). Stands g.D.Disk.tells (g.D.Disk.state c.put_bodies.new.disk) (HasBytes (c.args.tail.now.place + 1) l)) same c.in_ok-put_bodies.ensures.stands in
-    gate_passes version _ _ _ sound c.args.tail.now.starts to (start_fits _) n fits _ _ c.requires.closed.images c.put_bodies.ensures.images _ stands.images c.write_synced.ensures.syncs.images
+    gate_passes version _ _ _ sound c.args.tail.now.starts to (start_fits _) n fits _ _ c.requires.closed.images c.put_bodies.ensures.puts.images _ stands.images c.write_synced.ensures.syncs.images
 
 pub returns-clause-outside : goal.returns-clause-outside
 returns-clause-outside g c =
     let n = length c.bytes-bytes.result.now + length (bytes_ahead c.fitting-coming.result) in
     let wide : 1 + n ≤ 1 + (length (body_of c.args.ready.now.entry) + length (bytes_ahead c.args.next)) = omega (arith, ap length c.bytes-bytes.ensures.bytes, no_longer _ _ c.fitting-coming.ensures.is) in
-    passes_wide _ (1 + n) _ _ _ wide (gate_outside _ n _ _ c.put_bodies.ensures.images _ c.write_synced.ensures.syncs.images)
+    passes_wide _ (1 + n) _ _ _ wide (gate_outside _ n _ _ c.put_bodies.ensures.puts.images _ c.write_synced.ensures.syncs.images)
 
 -- and then the gate is open
 pub returns-clause-appended : goal.returns-clause-appended
