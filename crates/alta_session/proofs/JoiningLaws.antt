@@ -114,6 +114,6 @@ pub joins_task : (store : Store) (image : List ℕ) (place : ℕ) (asked : Optio
 joins_task store image place asked task is broken = subst (λ (t : Option Task). IsBrokenAmong (joins_where store t) image place) (sym is) broken
 
 -- the want of the task that is asked
-pub lacks_task : {image : List ℕ} {store : Store} (limit : ℕ) (o : Opened) (need gap : ℕ) (asked : Option Task) (task : Task) → asked ≡ Some task → Becomes limit image store.job task o (Err (record { need = need; gap = gap }))
+pub lacks_task : (limit : ℕ) (image : List ℕ) (store : Store) (o : Opened) (need gap : ℕ) (asked : Option Task) (task : Task) → asked ≡ Some task → Becomes limit image store.job task o (Err (record { need = need; gap = gap }))
     → FindsNoPlace limit image store asked o need gap
-lacks_task {image} {store} limit o need gap asked task is lacks = subst (λ (t : Option Task). FindsNoPlace limit image store t o need gap) (sym is) lacks
+lacks_task limit image store o need gap asked task is lacks = subst (λ (t : Option Task). FindsNoPlace limit image store t o need gap) (sym is) lacks

@@ -162,6 +162,6 @@ returns-in_default-clause-works g c =
     let not_taken : has_name c.args.name.now s ≡ true → ⊥ = λ taken. c.in_default.not-Taken (same_fault _ _ _ c.in-Err.is ((c.add.ensures.taken s knows).1 taken)) in
     let not_full : (has_name c.args.name.now s ≡ false) × (4294967296 ≤ s.next) → ⊥ = λ full. c.in_default.not-Numbers (same_fault _ _ _ c.in-Err.is ((c.add.ensures.numbers s knows).1 full)) in
     let left = room_left c.args.name.now s not_taken not_full in
-    lacks_task _ o need gap _ (enters (Add c.args.name.now c.args.title.now c.args.body.now)) (add_enters c.args.name.now c.args.title.now c.args.body.now s (search rules) left.0 left.1)
+    lacks_task _ (g.D.Disk.state c.args.disk.now).content c.args.self.now.store o need gap _ (enters (Add c.args.name.now c.args.title.now c.args.body.now)) (add_enters c.args.name.now c.args.title.now c.args.body.now s (search rules) left.0 left.1)
     (c.add.ensures.obeys.lacks o need gap tell is (c.in-Err.is ∙ ap Err lacks)))
     (λ none. absurd none)

@@ -136,5 +136,5 @@ returns-in_default-clause-works g c =
     (λ s o need gap knows tell is lacks.
     let there : has_name c.args.name.now s ≡ false → ⊥ = λ none. c.in_default.not-Missing (same_fault _ _ _ c.in-Err.is ((c.delete.ensures.missing s knows).1 none)) in
     let n = deleted_where c.args.name.now s there in
-    lacks_task _ o need gap _ (enters (Delete n.0)) (delete_enters c.args.name.now s n.0 (search rules) n.1) ((c.in-Err.ensures.obeys s n.0 knows n.1).lacks o need gap tell is (ap Err lacks)))
+    lacks_task _ (g.D.Disk.state c.args.disk.now).content c.args.self.now.store o need gap _ (enters (Delete n.0)) (delete_enters c.args.name.now s n.0 (search rules) n.1) ((c.in-Err.ensures.obeys s n.0 knows n.1).lacks o need gap tell is (ap Err lacks)))
     (λ none. absurd none)

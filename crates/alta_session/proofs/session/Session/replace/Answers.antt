@@ -135,6 +135,6 @@ returns-in_default-clause-works g c =
     (λ s o need gap knows tell is lacks.
     let room : (has_name c.args.name.now s ≡ true) × (4294967296 ≤ s.next) → ⊥ = λ full. c.in_default.not-Numbers (same_fault _ _ _ c.in-Err.is ((c.replace.ensures.numbers s knows).1 full)) in
     let n = number_left c.args.name.now s (c.requires.taken s knows) room in
-    lacks_task _ o need gap _ (enters (Replace n.0 c.args.name.now c.args.title.now c.args.body.now))
+    lacks_task _ (g.D.Disk.state c.args.disk.now).content c.args.self.now.store o need gap _ (enters (Replace n.0 c.args.name.now c.args.title.now c.args.body.now))
     (add_replaces c.args.name.now c.args.title.now c.args.body.now s n.0 c.requires.document.named n.1 n.2) ((c.in-Err.ensures.obeys s n.0 knows n.1).lacks o need gap tell is (ap Err lacks)))
     (λ none. absurd none)
