@@ -31,8 +31,8 @@ use std::sync::ledger::Ledger;
 /// is skipped; and then how many lines there are. The snapshot is that of [`crate::dump_order`]. Each list is walked over once, with at
 /// most as many steps as the lists are and have locations. Fails for want of memory alone.
 ///
-/// The text is as long as the folded words of all documents; beside it the walks keep 8 bytes for each cell of a live document,
-/// and at most 48 for each of these documents. A test with 2^32 - 1 terms counts as a want of memory.
+/// The text is as long as the folded words of all documents. Beside it the walks keep 8 bytes for each cell of a live document, and 32
+/// for each of these documents, with room to grow in. A test with 2^32 - 1 terms or more counts as a want of memory.
 pub fn dump<L: Ledger>(
     alloc: Global,
     snapshot: &Snapshot,
