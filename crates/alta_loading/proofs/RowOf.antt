@@ -78,3 +78,9 @@ stored_same level row s x y stream summary is a b = is ∙ ap (λ z. stored_as l
 pub term_at : (at : TermAt) (level : Tables) (row : ℕ) (term : List ℕ) → at.tables ≡ level → at.row ≡ row → slice_get (terms_of at.tables.terms) at.row ≡ Some term → slice_get (terms_of level.terms) row ≡ Some term
 term_at at level row term tables here is =
     ap (λ (t : Tables). slice_get (terms_of t.terms) row) (sym tables) ∙ ap (λ (k : ℕ). slice_get (terms_of at.tables.terms) k) (sym here) ∙ is
+
+-- and it has the term
+pub row_has : (rows : List TermRow) (term : List ℕ) (r : Option ℕ) → MatchOption r ((i : ℕ) → slice_get (terms_of rows) i ≡ Some term → ⊥) (λ i. slice_get (terms_of rows) i ≡ Some term)
+    → MatchOption r (Unit {0}) (λ i. slice_get (terms_of rows) i ≡ Some term)
+row_has rows term None h = tt
+row_has rows term (Some i) h = h

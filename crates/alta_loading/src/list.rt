@@ -1,5 +1,5 @@
 // One list of a level.
-ghost use Rattle.std.specs.Prelude.{◌≡◌, ℕ, ◌+◌, ◌<◌, ◌^◌, List, length, slice_get, Err, Some, IfOk};
+ghost use Rattle.std.specs.Prelude.{◌≡◌, ℕ, ◌+◌, ◌<◌, ◌^◌, List, length, Err, IfOk};
 ghost use Rattle.alta_content.specs.Rows.{AreDocuments};
 ghost use Rattle.alta_disk.specs.Calls.{Retrieves};
 ghost use Rattle.alta_disk.specs.Disk.{DiskState};
@@ -9,11 +9,10 @@ ghost use Rattle.alta_disk.specs.Answers.{IfDamaged, IsDamaged, IsFound};
 ghost use Rattle.alta_loading.specs.Lists.{KeepsRow, LiesWithin, stored_as, stored_in, stream_size, summary_size};
 ghost use Rattle.alta_disk.specs.declared.fault.LoadFault.TheVariants.{Disk as DiskFault};
 ghost use Rattle.alta_table.specs.Places.{stream_place};
-ghost use Rattle.alta_table.specs.Terms.{terms_of};
 
 use alta_disk::{Disk, LoadFault, read_part};
 use alta_level::{StoredList, check_list};
-use alta_table::{LevelFault, OpenLevel};
+use alta_table::{LevelFault, OpenLevel, TermCursor};
 use alta_words::Posting;
 use std::alloc::Global;
 
@@ -92,7 +91,7 @@ fn checked(
     ensures lean { result ≡ Err DiskFault → ⊥ }
 {
     let cursor = table.at(row);
-    let list = stored(table, row, cursor.term(), &stream, &summary);
+    let list = stored(table, row, &cursor, &stream, &summary);
     match check_list(&list, table.rows()) {
         Ok(bounds) => Ok(Posting::of(stream, summary, bounds)),
         Err(LevelFault::Damaged(place)) => Err(LoadFault::Damaged(place)),
@@ -100,25 +99,32 @@ fn checked(
     }
 }
 
-// The list of a row, which has this term, of these bytes.
+// The list of a row, at which a cursor stands, of these bytes.
 fn stored<'a>(
     table: &OpenLevel,
     row: usize,
-    term: &'a [u8],
+    cursor: &'a TermCursor<'_>,
     stream: &'a [u8],
     summary: &'a [u8],
 ) -> StoredList<'a>
-    requires row { row < length table.now.terms }
-    requires term { slice_get (terms_of table.now.terms) row ≡ Some term.now }
+    requires tables { cursor.now.tables ≡ table.now }
+    requires here { cursor.now.row ≡ row }
     ensures { stored_of result ≡ stored_as table.now row stream.now summary.now }
 {
-    let (place, behind) = table.stream_place(row);
+    listed(cursor, stream, summary)
+}
+
+// The list of the row at which a cursor stands, of these bytes.
+fn listed<'a>(cursor: &'a TermCursor<'_>, stream: &'a [u8], summary: &'a [u8]) -> StoredList<'a>
+    ensures { stored_of result ≡ stored_as cursor.now.tables cursor.now.row stream.now summary.now }
+{
+    let (place, behind) = cursor.stream_place();
     StoredList {
         stream,
         stream_place: place.place,
         summary,
         summary_place: behind.place,
-        term,
-        count: table.count(row),
+        term: cursor.term(),
+        count: cursor.count(),
     }
 }

@@ -1,9 +1,10 @@
 // The lists of a term.
-ghost use Rattle.std.specs.Prelude.{◌≡◌, ◌∷◌, ◌++◌, ◌^◌, ℕ, List, [], map, All, Err, IfOk, OnOk, Some, MatchOption, ◌<◌, length, IsTrue};
+ghost use Rattle.std.specs.Prelude.{◌≡◌, ◌∷◌, ◌++◌, ◌^◌, ℕ, List, [], map, All, Err, IfOk, OnOk, Some, MatchOption, ◌<◌, length, slice_get, IsTrue};
 ghost use Rattle.alta_content.specs.Rows.{ends_of};
 ghost use Rattle.alta_disk.specs.Disk.{DiskState};
 ghost use Rattle.alta_loading.specs.Lists.{KeepsRow, LiesWithin, stream_size};
 ghost use Rattle.alta_loading.specs.Loads.{KeepRows, Load, ReadsLists, list_at, load_at, load_in, loads_from, number_of, row_from};
+ghost use Rattle.alta_loading.specs.Met.{level_terms};
 ghost use Rattle.alta_loading.specs.Terms.{KeepTerm, if_some, lists_of_term, number_if_some, term_key};
 ghost use Rattle.alta_loading.specs.Tested.{AreEndsWhole, IsAllEnds};
 ghost use Rattle.alta_search.specs.Lists.{key_of, level_in, level_list, stored_list, term_lists};
@@ -138,7 +139,7 @@ fn load_next<D: Disk>(
 {
     match row_of(level, term, number, nears) {
         None => Ok(()),
-        Some(row) => match load_row(alloc, disk, number, level, ends, row) {
+        Some(row) => match load_row(alloc, disk, number, level, ends, row, term) {
             Ok(list) => {
                 lists.push(list)?;
                 Ok(())
@@ -152,6 +153,7 @@ fn load_next<D: Disk>(
 fn row_of(level: &OpenLevel, term: &[u8], number: u64, nears: &mut [usize]) -> Option<usize>
     ensures row { result ≡ row_from 0 level.now.terms term.now }
     ensures within { MatchOption result (Unit {0}) (λ row. row < length level.now.terms) }
+    ensures term { MatchOption result (Unit {0}) (λ row. slice_get (level_terms level.now) row ≡ Some term.now) }
 {
     // This call tells that the terms rise.
     let _documents = level.documents();
@@ -161,7 +163,7 @@ fn row_of(level: &OpenLevel, term: &[u8], number: u64, nears: &mut [usize]) -> O
     }
 }
 
-// The list of a row of a level.
+// The list of a row of a level, which has this term.
 fn load_row<D: Disk>(
     alloc: Global,
     disk: &mut D,
@@ -169,8 +171,10 @@ fn load_row<D: Disk>(
     level: &OpenLevel,
     ends: Ends,
     row: usize,
+    term: &[u8],
 ) -> Result<LevelList, LoadFault>
     requires row { row < length level.now.terms }
+    requires term { slice_get (level_terms level.now) row ≡ Some term.now }
     requires within { D.tells → LiesWithin level.now (D.state disk.old).content }
     requires ends { D.tells → AreEndsWhole ends (D.state disk.old).content (level.now ∷ []) }
     ensures number { IfOk result (λ list. level_in list ≡ number) }
@@ -178,14 +182,14 @@ fn load_row<D: Disk>(
     ensures kept { IfOk result (λ list. KeepsRow level.now row (level_list list)) }
     ensures loads { ReadsLists D.tells (load_at number level.now (Some row)) (D.state disk.old) (D.state disk.new) result }
 {
-    if is_tested(ends, level, row) {
+    if is_tested(ends, level, row, term) {
         let list = all_ends(number, level)?;
         return Ok(list);
     }
     match load_list(alloc, disk, level, row) {
         Ok(posting) => Ok(LevelList {
             level: number,
-            stored: held(level, row, posting)?,
+            stored: held(level, row, term, posting)?,
         }),
         Err(fault) => Err(fault),
     }
@@ -193,30 +197,32 @@ fn load_row<D: Disk>(
 
 // Whether nothing has to be read of a row: its list is that of all ends, which was tested, and the row counts as many as there are
 // documents.
-fn is_tested(ends: Ends, level: &OpenLevel, row: usize) -> bool
-    requires { row < length level.now.terms }
+fn is_tested(ends: Ends, level: &OpenLevel, row: usize, term: &[u8]) -> bool
+    requires row { row < length level.now.terms }
+    requires term { slice_get (level_terms level.now) row ≡ Some term.now }
     ensures ends { IsTrue result → (image : List ℕ) → AreEndsWhole ends image (level.now ∷ []) → IsAllEnds image (record { number = 0; level = level.now; row = row }) }
     ensures kept { IsTrue result → KeepsRow level.now row (ends_of level.now.documents) }
-    ensures small { stream_size level.now row < 2 ^ 64 }
+    ensures small { IsTrue result → stream_size level.now row < 2 ^ 64 }
 {
-    // This call tells that the stream has no more bytes than a number can count.
-    let (_stream, _summary) = level.stream_place(row);
     match ends {
         Ends::Untested => false,
-        Ends::Tested => counts_all_ends(level, row),
+        Ends::Tested => counts_all_ends(level, row, term),
     }
 }
 
 // Whether a row is that of all ends, and counts as many as there are documents.
-fn counts_all_ends(level: &OpenLevel, row: usize) -> bool
-    requires { row < length level.now.terms }
+fn counts_all_ends(level: &OpenLevel, row: usize, term: &[u8]) -> bool
+    requires row { row < length level.now.terms }
+    requires term { slice_get (level_terms level.now) row ≡ Some term.now }
     ensures ends { IsTrue result → (image : List ℕ) → AreEndsWhole Ends.Tested image (level.now ∷ []) → IsAllEnds image (record { number = 0; level = level.now; row = row }) }
     ensures kept { IsTrue result → KeepsRow level.now row (ends_of level.now.documents) }
+    ensures small { IsTrue result → stream_size level.now row < 2 ^ 64 }
 {
-    let cursor = level.at(row);
-    if !is_end_term(cursor.term()) {
+    if !is_end_term(term) {
         return false;
     }
+    // This call tells that the stream has no more bytes than a number can count.
+    let (_stream, _summary) = level.stream_place(row);
     level.count(row) == level.documents().len() as u64
 }
 
@@ -234,13 +240,12 @@ fn all_ends(number: u64, level: &OpenLevel) -> Result<LevelList, AllocError>
 
 // The list of a row as it is kept: where it is that of the ends of documents, as the level's rows have them in a plain form, and else as
 // it is coded.
-fn held(level: &OpenLevel, row: usize, posting: Posting) -> Result<Stored, AllocError>
-    requires row { row < length level.now.terms }
+fn held(level: &OpenLevel, row: usize, term: &[u8], posting: Posting) -> Result<Stored, AllocError>
+    requires term { slice_get (level_terms level.now) row ≡ Some term.now }
     requires keeps { KeepsRow level.now row posting }
     ensures { IfOk result (λ stored. stored_list stored ≡ posting) }
 {
-    let cursor = level.at(row);
-    if is_end_term(cursor.term()) {
+    if is_end_term(term) {
         Ok(Stored::Ends(level.rows().clone()?))
     } else {
         Ok(Stored::Coded(posting))

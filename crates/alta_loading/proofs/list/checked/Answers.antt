@@ -1,13 +1,10 @@
 use Rattle.std.proofs.Common.{◌<◌, List, ℕ, length, sym, ◌∙◌, subst}
 use Rattle.alta_content.specs.declared.document.DocRow.{DocRow}
 use Rattle.alta_level.specs.Stored.{IsListOf, Stored, stored_of}
-use Rattle.alta_loading.proofs.RowOf.{row_counted, stored_same, term_at}
+use Rattle.alta_loading.proofs.RowOf.{row_counted, stored_same}
 use Rattle.alta_postings.specs.Deltas.{decoded_list}
 use Rattle.alta_words.specs.Word.{HasBounds, IsPosting}
 use Rattle.alta_loading.proofs.list.checked.Goals as goal
-
-pub stored-list-requires-clause-term : goal.stored-list-requires-clause-term
-stored-list-requires-clause-term c = term_at c.at-cursor.result c.args.table.now c.args.row c.term.result.now c.at-cursor.ensures.tables c.at-cursor.ensures.row c.term.ensures
 
 pub of-requires-clause-agrees : goal.of-requires-clause-agrees
 of-requires-clause-agrees c =

@@ -5,7 +5,6 @@ use Rattle.alta_content.proofs.Apart.{ends_rise}
 use Rattle.alta_content.specs.Lists.{end_term}
 use Rattle.alta_content.specs.Rows.{ends_of}
 use Rattle.alta_level.proofs.Walks.{ends_many}
-use Rattle.alta_loading.proofs.RowOf.{term_at}
 use Rattle.alta_loading.proofs.TestedEnds.{ends_in_ranges, row_tested}
 use Rattle.alta_loading.specs.Loads.{IsWhole}
 use Rattle.alta_table.specs.Terms.{counts_of, terms_of}
@@ -15,10 +14,10 @@ pub returns-clause-ends : goal.returns-clause-ends
 returns-clause-ends c = λ counted image whole_ends.
     let level = c.args.level.now in let row = c.args.row in
     let yes : c.is_end_term.result ≡ true = search rules in
-    let term : c.term.result.now ≡ end_term = c.is_end_term.ensures.0 yes in
-    let is = term_at c.at-cursor.result level row c.term.result.now c.at-cursor.ensures.tables c.at-cursor.ensures.row c.term.ensures in
+    let term : c.args.term.now ≡ end_term = c.is_end_term.ensures.0 yes in
+    let is = c.requires.term in
     let whole : IsWhole image (record { number = 0; level = level; row = row }) = row_tested image level row c.documents.ensures.kept.terms_stand (is ∙ ap Some term) whole_ends in
-    record { whole = whole; are = whole.fits.ends (get_or_from_slice_get (terms_of level.terms) row c.term.result.now [] is ∙ term) }
+    record { whole = whole; are = whole.fits.ends (get_or_from_slice_get (terms_of level.terms) row c.args.term.now [] is ∙ term) }
 
 pub returns-clause-kept : goal.returns-clause-kept
 returns-clause-kept c = λ counted.

@@ -23,7 +23,7 @@ returns-then-is_tested-clause-loads g c = record {
       let image = (g.D.Disk.state c.args.disk.now).content in
       let load : Load = record { number = c.args.number; level = c.args.level.now; row = c.args.row } in
       let some = length-take (stream_size load.level load.row) (drop (stream_place load.level load.row) image) in
-      let short : length (stored_by image load).stream < 2 ^ 64 = omega (arith, c.is_tested.ensures.small, some) in
+      let short : length (stored_by image load).stream < 2 ^ 64 = omega (arith, c.is_tested.ensures.small c.if-is_tested.true, some) in
       tells_whole image load c.in_ok-list.list short (c.is_tested.ensures.ends c.if-is_tested.true image (c.requires.ends told)).whole;
 }
 
