@@ -1,5 +1,5 @@
 // One list of a level.
-ghost use Rattle.std.specs.Prelude.{◌≡◌, ℕ, ◌+◌, ◌<◌, ◌^◌, List, length, Err, IfOk};
+ghost use Rattle.std.specs.Prelude.{◌≡◌, ℕ, ◌+◌, ◌<◌, ◌≤◌, ◌^◌, List, length, Err, IfOk};
 ghost use Rattle.alta_content.specs.Rows.{AreDocuments};
 ghost use Rattle.alta_disk.specs.Calls.{Retrieves};
 ghost use Rattle.alta_disk.specs.Disk.{DiskState};
@@ -8,8 +8,10 @@ ghost use Rattle.alta_level.specs.Stored.{IsListFault, IsListOf, stored_of};
 ghost use Rattle.alta_disk.specs.Answers.{IfDamaged, IsDamaged, IsFound};
 ghost use Rattle.alta_loading.specs.Lists.{KeepsRow, LiesWithin, stored_as, stored_in, stream_size, summary_size};
 ghost use Rattle.alta_disk.specs.declared.fault.LoadFault.TheVariants.{Disk as DiskFault};
-ghost use Rattle.alta_table.specs.Places.{stream_place};
+ghost use Rattle.alta_table.specs.Places.{stream_extent, stream_place, summary_extent};
+ghost use Rattle.alta_table.specs.Tables.{total_of};
 
+use alta_codec::Extent;
 use alta_disk::{Disk, LoadFault, read_part};
 use alta_level::{StoredList, check_list};
 use alta_table::{LevelFault, OpenLevel, TermCursor};
@@ -44,18 +46,34 @@ pub fn load_list<D: Disk>(
     ensures kept { IfOk result (λ posting. KeepsRow table.now row posting) }
     ensures retrieves { Retrieves D.tells (stream_size table.now row + summary_size table.now row) (D.state disk.old) (D.state disk.new) result }
 {
-    let (stream, summary) = read_bytes(alloc, disk, table, row)?;
-    checked(table, row, stream, summary)
+    let cursor = table.at(row);
+    let (stream, summary) = read_bytes(alloc, disk, table, row, &cursor)?;
+    checked(table, row, &cursor, stream, summary)
 }
 
-// The bytes of the stream and of the summary of a row.
+// Where stream and summary of a row stand, at which a cursor stands.
+fn places(table: &OpenLevel, row: usize, cursor: &TermCursor<'_>) -> (Extent, Extent)
+    requires tables { cursor.now.tables ≡ table.now }
+    requires here { cursor.now.row ≡ row }
+    ensures stream { result.0 ≡ stream_extent table.now row }
+    ensures summary { result.1 ≡ summary_extent table.now row }
+    ensures beside { result.1.place ≡ result.0.place + result.0.bytes }
+    ensures within { result.1.place + result.1.bytes ≤ table.now.place + total_of table.now.documents table.now.terms }
+{
+    cursor.stream_place()
+}
+
+// The bytes of the stream and of the summary of a row, at which a cursor stands.
 fn read_bytes<D: Disk>(
     alloc: Global,
     disk: &mut D,
     table: &OpenLevel,
     row: usize,
+    cursor: &TermCursor<'_>,
 ) -> Result<(Vec<u8>, Vec<u8>), LoadFault>
     requires row { row < length table.now.terms }
+    requires tables { cursor.now.tables ≡ table.now }
+    requires here { cursor.now.row ≡ row }
     requires within { D.tells → LiesWithin table.now (D.state disk.old).content }
     ensures stored { D.tells → IfOk result (λ x. stored_as table.now row x.0.items x.1.items ≡ stored_in table.now row (D.state disk.old).content) }
     ensures sizes { IfOk result (λ x. (length x.0.items ≡ stream_size table.now row) × (length x.1.items ≡ summary_size table.now row)) }
@@ -63,7 +81,7 @@ fn read_bytes<D: Disk>(
     ensures undamaged { IfDamaged result (λ p. ⊥) }
     ensures retrieves { Retrieves D.tells (stream_size table.now row + summary_size table.now row) (D.state disk.old) (D.state disk.new) result }
 {
-    let (stream, summary) = table.stream_place(row);
+    let (stream, summary) = places(table, row, cursor);
     // A level lies within its disk, so there is always such an end.
     let Some(end) = summary.place.checked_add(summary.bytes) else {
         return Err(LoadFault::Memory);
@@ -73,14 +91,17 @@ fn read_bytes<D: Disk>(
     Ok((bytes, behind))
 }
 
-// The list of a row, of these bytes, or its first fault.
+// The list of a row, at which a cursor stands, of these bytes, or its first fault.
 fn checked(
     table: &OpenLevel,
     row: usize,
+    cursor: &TermCursor<'_>,
     stream: Vec<u8>,
     summary: Vec<u8>,
 ) -> Result<Posting, LoadFault>
     requires row { row < length table.now.terms }
+    requires tables { cursor.now.tables ≡ table.now }
+    requires here { cursor.now.row ≡ row }
     requires sizes { (length stream.items ≡ stream_size table.now row) × (length summary.items ≡ summary_size table.now row) }
     requires below { stream_place table.now row + stream_size table.now row + summary_size table.now row < 2 ^ 64 }
     ensures list { IfOk result (λ posting. IsListOf table.now.documents (stored_as table.now row stream.items summary.items) posting) }
@@ -90,8 +111,7 @@ fn checked(
     ensures some { IfOk result (λ posting. 0 < length posting) }
     ensures lean { result ≡ Err DiskFault → ⊥ }
 {
-    let cursor = table.at(row);
-    let list = stored(table, row, &cursor, &stream, &summary);
+    let list = stored(table, row, cursor, &stream, &summary);
     match check_list(&list, table.rows()) {
         Ok(bounds) => Ok(Posting::of(stream, summary, bounds)),
         Err(LevelFault::Damaged(place)) => Err(LoadFault::Damaged(place)),

@@ -11,8 +11,9 @@ returns-in_err-put_body-clause-puts g c =
 
 pub returns-clause-puts : goal.returns-clause-puts
 returns-clause-puts g c = record {
-    images = passes_more c.args.at (length c.args.bytes.now) (length (bytes_ahead c.args.next.now)) _ _ _ c.put_body.ensures.puts.images c.put_next.ensures.puts.images;
-    charges = search rules }
+  images = passes_more c.args.at (length c.args.bytes.now) (length (bytes_ahead c.args.next.now)) _ _ _ c.put_body.ensures.puts.images c.put_next.ensures.puts.images;
+  charges = search rules;
+}
 
 -- the body, and then what is ahead
 pub returns-clause-written : goal.returns-clause-written

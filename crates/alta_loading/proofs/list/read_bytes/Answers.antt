@@ -11,7 +11,7 @@ pub returns-clause-stored : goal.returns-clause-stored
 returns-clause-stored g c = λ told.
     let level = c.args.table.now in let row = c.args.row in
     let image = (g.D.Disk.state c.args.disk.now).content in
-    let s : Extent = c.stream_place.result.0 in let t : Extent = c.stream_place.result.1 in
+    let s : Extent = c.places.result.0 in let t : Extent = c.places.result.1 in
     let n : ℕ = c.in-Some.end - s.place in
     let size : n ≡ s.bytes + t.bytes = omega arith in
     let read : c.in_ok-bytes.bytes.items ≡ part s.place n image = c.in_ok-bytes.ensures.read told in
@@ -20,5 +20,5 @@ returns-clause-stored g c = λ told.
     let f : Extent → Extent → Stored = λ x y. stored_as level row (part x.place x.bytes image) (part (x.place + x.bytes) y.bytes image) in
     ap (λ (x : List ℕ). stored_as level row x c.in_ok-behind.behind.items) front
     ∙ ap (λ (y : List ℕ). stored_as level row (part s.place s.bytes image) y) back
-    ∙ ap (λ (x : Extent). f x t) c.stream_place.ensures.stream
-    ∙ ap (λ (y : Extent). f (stream_extent level row) y) c.stream_place.ensures.summary
+    ∙ ap (λ (x : Extent). f x t) c.places.ensures.stream
+    ∙ ap (λ (y : Extent). f (stream_extent level row) y) c.places.ensures.summary
