@@ -42,10 +42,11 @@ pub fn what_was_answered_is_kept<C: Console, D: Disk>()
         → Each (D.state disk_now).images (HoldsAnswered StandsFor (started_at s) (lines_in limit serves.run) (given_in serves.run)) }
 {}
 
-/// A damaged archive goes on being added to, and what was answered as stored is there. Where all that a stop may leave on the disk may speak of
-/// one state as a run begins, whatever lists are broken, each image that a stop may leave afterwards may speak of the documents after some of
-/// the lines taken, in order from the first: after each line whose reply was given whole, or after one line more. Where each of the lines may
-/// change the index, as an add or a delete, these are the lines whose replies begin what was given.
+/// What was answered as stored is there in a damaged archive too, which takes changes until a join reads a broken list. Where all that a
+/// stop may leave on the disk may speak of one state as a run begins, whatever lists are broken, each image that a stop may leave
+/// afterwards may speak of the documents after some of the lines taken, in order from the first: after each line whose reply was given
+/// whole, or after one line more. Where each of the lines may change the index, as an add or a delete, these are the lines whose replies
+/// begin what was given.
 pub fn what_was_answered_is_kept_beside_damage<C: Console, D: Disk>()
     ensures replied { (console console_now : C) (disk disk_now : D) (limit : ℕ) (status : Status) (s : State) → Stands D.tells (D.state disk) (MaySpeakOf s)
         → (serves : Serves D.tells limit (C.told console) (C.told console_now) (C.left console) (C.left console_now) (D.state disk) (D.state disk_now) status)
