@@ -5,7 +5,7 @@ usage: bench/adds.py [--program PATH] [--before PATH] [--lines FILE] [--count N]
 
 FILE has `add` lines, as `bunco packages - /var/lib/dpkg/status` writes them; without one, lines of about 400 bytes are made. Both the
 program and the loop write to files in FOLDER (a new one in the current folder by default, so that both are on the same
-file system): a record behind its gate, a data sync, the gate, a data sync.
+file system): the first record behind its gate and a data sync, and then for each the next one behind its gate, the gate, a data sync.
 
 Prints documents a second of both and their ratio, the program's processor time a byte of input and its peak memory, and,
 where strace is there, the system calls of each kind a document. With --before the processor time and the memory of a program of before
@@ -48,9 +48,10 @@ def bare_loop(path, records):
     os.fsync(file)
     begun = time.perf_counter()
     at = 0
-    for record in records:
-        os.pwrite(file, record, at + 1)
-        os.fdatasync(file)
+    os.pwrite(file, records[0], 1)
+    os.fdatasync(file)
+    for record, coming in zip(records, [*records[1:], b""]):
+        os.pwrite(file, coming, at + len(record) + 1)
         os.pwrite(file, b"\xa5", at)
         os.fdatasync(file)
         at += len(record)

@@ -1,5 +1,5 @@
 // A session: a line changes the state, and has a reply.
-ghost use Rattle.std.specs.Prelude.{◌≡◌, ◌⊎◌, ◌+◌, ◌++◌, true, codes, decimal, Result, Err, None, Some, IfOk, IfErr, OnErr, IsTrue, ◌↔◌};
+ghost use Rattle.std.specs.Prelude.{◌≡◌, ◌⊎◌, ◌+◌, ◌++◌, true, codes, decimal, Result, Err, None, Some, IfOk, IfErr, IfSome, OnErr, IsTrue, ◌↔◌};
 ghost use Rattle.alta_codec.specs.Name.{IsName};
 ghost use Rattle.alta_codec.specs.Bytes.{Lacks};
 ghost use Rattle.alta_disk.specs.Disk.{DiskState, Only};
@@ -31,6 +31,7 @@ use alta_model::{Line, read_line};
 use alta_replies::{close, count, dump, explain, fetch, open, rank, search, text};
 use alta_search::Cursors;
 use alta_store::{Store, StoreFault};
+use memchr::memchr;
 use std::alloc::Global;
 
 /// An open index that answers command lines, and the cursors that are open over it.
@@ -74,6 +75,45 @@ impl Session {
         ensures { IsTrue result ↔ HasNotFailed self.now }
     {
         self.sound && self.store.sound()
+    }
+
+    /// Looks at the bytes that wait behind the line to come. Where two whole lines wait, and the first adds a document, its record is made
+    /// ready, and the line to come may write its body ahead, as [`prepare`](Store::prepare) says. Each line has the same reply and does the
+    /// same work without it.
+    pub fn look_ahead(&mut self, waiting: &[u8])
+        ensures { self.new ≡ self.old }
+    {
+        match first_of_two(waiting) {
+            Some(line) => self.prepare_line(line),
+            None => self.store.prepare_nothing(),
+        }
+    }
+
+    // Makes ready what a line adds.
+    fn prepare_line(&mut self, line: &[u8])
+        requires { Lacks 10 line.now }
+        ensures { self.new ≡ self.old }
+    {
+        let asked = match read_line(line) {
+            Ok(asked) => asked,
+            Err(_) => return self.store.prepare_nothing(),
+        };
+        match asked {
+            Line::Add { name, title, body } => self.prepare_document(name, title, body),
+            _ => self.store.prepare_nothing(),
+        }
+    }
+
+    // Makes ready a document whose name may be one.
+    fn prepare_document(&mut self, name: &str, title: &str, body: &str)
+        requires { IsName name.now → IsDocument name.now title.now body.now }
+        ensures { self.new ≡ self.old }
+    {
+        if name_ok(name.as_bytes()) {
+            self.store.prepare(name, title, body);
+        } else {
+            self.store.prepare_nothing();
+        }
     }
 
     /// Answers a line, without its newline: changes the index, and gives the reply, which ends with a newline.
@@ -286,6 +326,15 @@ impl Session {
             Err(fault) => Err(fault),
         }
     }
+}
+
+// The first of the whole lines that these bytes begin with, where there are two.
+fn first_of_two(bytes: &[u8]) -> Option<&[u8]>
+    ensures { IfSome result (λ line. Lacks 10 line.now) }
+{
+    let n = memchr(b'\n', bytes)?;
+    let _next = memchr(b'\n', &bytes[n + 1..])?;
+    Some(&bytes[..n])
 }
 
 // The reply to a line that is refused.

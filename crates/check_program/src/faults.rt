@@ -51,9 +51,9 @@ fn left_by(alloc: Global, content: &[u8], input: &[u8], calls: u64) -> Result<St
     Ok(out)
 }
 
-// An add makes four calls: a write and a sync of its record, and of its gate. Where the write of the gate fails it may be torn, so
-// that the gate is open in the image of marked bytes alone; where it is written and not synced, also in the content. A line with
-// nothing to do makes no call.
+// An add behind which no two lines wait makes four calls: a write and a sync of its record, and of its gate. Where the write of the
+// gate fails it may be torn, so that the gate is open in the image of marked bytes alone; where it is written and not synced, also in
+// the content. A line with nothing to do makes no call.
 pub(crate) fn a_stop_keeps_what_was_answered(rt: &impl Abort, alloc: Global) -> Result<(), Fail> {
     let content = made(alloc)?;
     let rows = [
