@@ -81,38 +81,11 @@ impl Session {
     /// ready, and the line to come may write its body ahead, as [`prepare`](Store::prepare) says. Each line has the same reply and does the
     /// same work without it.
     pub fn look_ahead(&mut self, waiting: &[u8])
-        ensures { self.new ≡ self.old }
+        ensures kept { self.new ≡ self.old }
     {
         match first_of_two(waiting) {
-            Some(line) => self.prepare_line(line),
+            Some(line) => prepare_line(&mut self.store, line),
             None => self.store.prepare_nothing(),
-        }
-    }
-
-    // Makes ready what a line adds.
-    fn prepare_line(&mut self, line: &[u8])
-        requires { Lacks 10 line.now }
-        ensures { self.new ≡ self.old }
-    {
-        let asked = match read_line(line) {
-            Ok(asked) => asked,
-            Err(_) => return self.store.prepare_nothing(),
-        };
-        match asked {
-            Line::Add { name, title, body } => self.prepare_document(name, title, body),
-            _ => self.store.prepare_nothing(),
-        }
-    }
-
-    // Makes ready a document whose name may be one.
-    fn prepare_document(&mut self, name: &str, title: &str, body: &str)
-        requires { IsName name.now → IsDocument name.now title.now body.now }
-        ensures { self.new ≡ self.old }
-    {
-        if name_ok(name.as_bytes()) {
-            self.store.prepare(name, title, body);
-        } else {
-            self.store.prepare_nothing();
         }
     }
 
@@ -335,6 +308,33 @@ fn first_of_two(bytes: &[u8]) -> Option<&[u8]>
     let n = memchr(b'\n', bytes)?;
     let _next = memchr(b'\n', &bytes[n + 1..])?;
     Some(&bytes[..n])
+}
+
+// Makes ready what a line adds.
+fn prepare_line(store: &mut Store, line: &[u8])
+    requires { Lacks 10 line.now }
+    ensures { store.new ≡ store.old }
+{
+    let asked = match read_line(line) {
+        Ok(asked) => asked,
+        Err(_) => return store.prepare_nothing(),
+    };
+    match asked {
+        Line::Add { name, title, body } => prepare_document(store, name, title, body),
+        _ => store.prepare_nothing(),
+    }
+}
+
+// Makes ready a document whose name may be one.
+fn prepare_document(store: &mut Store, name: &str, title: &str, body: &str)
+    requires { IsName name.now → IsDocument name.now title.now body.now }
+    ensures { store.new ≡ store.old }
+{
+    if name_ok(name.as_bytes()) {
+        store.prepare(name, title, body);
+    } else {
+        store.prepare_nothing();
+    }
 }
 
 // The reply to a line that is refused.

@@ -3,7 +3,7 @@ use Rattle.alta_machine.specs.Command.{ReadsLine}
 use Rattle.alta_model.specs.Seen.{command_of}
 use Rattle.alta_model.specs.declared.line.Line.{Line}
 use Rattle.alta_session.proofs.AddingLaws.{line_is_document}
-use Rattle.alta_session.proofs.session.Session.prepare_line.Goals as goal
+use Rattle.alta_session.proofs.session.prepare_line.Goals as goal
 
 pub prepare_document-requires : goal.prepare_document-requires
 prepare_document-requires g c =
