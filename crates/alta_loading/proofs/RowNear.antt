@@ -1,6 +1,7 @@
 -- What the rows beside a place say of a term, in rows whose terms rise.
-use Rattle.std.proofs.Common.{◌≡◌, ◌⊎◌, ⊎_elim, ℕ, zero, suc, ◌≤◌, ◌<◌, true, List, [], ◌∷◌, refl, sym, ap, subst, ◌∙◌, arith}
-use Rattle.std.specs.Prelude.{◌-◌, Option, Some, None, slice_get}
+use Rattle.std.proofs.Common.{◌≡◌, length, get_or, ◌⊎◌, ⊎_elim, ℕ, zero, suc, ◌≤◌, ◌<◌, true, List, [], ◌∷◌, refl, sym, ap, subst, ◌∙◌, arith}
+use Rattle.std.specs.Prelude.{◌-◌, IfSome, Option, Some, None, MatchOption, slice_get, slice_index_or}
+use Rattle.std.proofs.lemmas.List.{get_or_default}
 use Rattle.std.specs.Cmp.Lexicographic.{slice_cmp}
 use Rattle.std.specs.FinMap.{slice_cmp-IsAntisymmetric, nat_cmp-IsAntisymmetric}
 use Rattle.std.specs.Ordering.{nat_cmp, is_lt}
@@ -11,7 +12,10 @@ use Rattle.std.proofs.lemmas.Cmp.{nat_list_cmp_total, tied_itself}
 use Rattle.alta_codec.specs.Order.{Precedes}
 use Rattle.alta_content.proofs.Order.{less_on}
 use Rattle.alta_loading.proofs.RowOf.{behind}
-use Rattle.alta_loading.specs.Near.{order_to}
+use Rattle.alta_loading.specs.Met.{level_terms}
+use Rattle.alta_loading.specs.Near.{AreNear, IsBeside, order_to}
+use Rattle.alta_loading.specs.declared.near.Beside.{Beside}
+use Rattle.alta_table.specs.Tables.{Tables}
 use Rattle.alta_table.specs.Terms.{AreTerms, AreTermsBehind, terms_of}
 use Rattle.alta_table.specs.declared.term.TermRow.{TermRow}
 
@@ -92,3 +96,41 @@ absent_at rows term at m low high i e =
     last : (o : Option (List ℕ)) → slice_get (terms_of rows) (at - 1) ≡ o → i < at → order_to term o ≡ Less → ⊥
     last None is before less = absurd (cc)
     last (Some b) is before less = greater rows term b i (at - 1) m e is (omega (arith, before)) less
+
+-- ---- two rows beside each other
+
+pub beside_is : (level : Tables) (o : Option Beside) (b : Beside) → IfSome o (λ b. IsBeside level b) → o ≡ Some b → IsBeside level b
+beside_is level o b h is = subst (λ (x : Option Beside). IfSome x (λ b. IsBeside level b)) is h
+
+-- how the second stands to a term
+pub here_order : (level : Tables) (b : Beside) (term : List ℕ) (o : Ordering) → IsBeside level b → o ≡ order_to term (slice_get (level_terms b.here.tables) b.here.row)
+    → order_to term (slice_get (level_terms level) b.place) ≡ o
+here_order level b term o is e = sym (e
+    ∙ ap (λ (t : Tables). order_to term (slice_get (level_terms t) b.here.row)) is.here
+    ∙ ap (λ (k : ℕ). order_to term (slice_get (level_terms level) k)) (sym is.place))
+
+-- and the first
+pub before_order : (level : Tables) (b : Beside) (term : List ℕ) (o : Ordering) → IsBeside level b → order_to term (slice_get (level_terms b.before.tables) b.before.row) ≡ o
+    → order_to term (slice_get (level_terms level) (b.place - 1)) ≡ o
+before_order level b term o is e =
+    let at : b.place - 1 ≡ b.before.row = omega (arith, is.row, is.place) in
+    ap (λ (k : ℕ). order_to term (slice_get (level_terms level) k)) at ∙ sym (ap (λ (t : Tables). order_to term (slice_get (level_terms t) b.before.row)) is.before) ∙ e
+
+-- ---- levels in which terms are looked up
+
+-- what a look-up in one of them finds
+pub among : (r : Option ℕ) (t level : Tables) (term : List ℕ) → t ≡ level
+    → MatchOption r ((i : ℕ) → slice_get (level_terms t) i ≡ Some term → ⊥) (λ i. slice_get (level_terms t) i ≡ Some term)
+    → MatchOption r ((i : ℕ) → slice_get (level_terms level) i ≡ Some term → ⊥) (λ i. slice_get (level_terms level) i ≡ Some term)
+among r t level term is h =
+    subst (λ (t : Tables). MatchOption r ((i : ℕ) → slice_get (level_terms t) i ≡ Some term → ⊥) (λ i. slice_get (level_terms t) i ≡ Some term)) is h
+
+-- the one of a number is the level of that number
+pub near_at : (levels nears now : List Tables) (i : ℕ) (x d : Tables) → AreNear levels nears → now ≡ nears → x ≡ get_or levels i x → i < length now → get_or now i d ≡ x
+near_at levels nears now i x d are same is within =
+    ⊎_elim
+    (λ none. let empty : now ≡ [] = same ∙ none in let many : length now ≡ 0 = ap length empty in absurd (omega (arith, many, within)))
+    (λ all.
+    let equal : now ≡ levels = same ∙ all in
+    get_or_default now i d x within ∙ ap (λ (l : List Tables). get_or l i x) equal ∙ sym is)
+    are

@@ -20,5 +20,4 @@ pub use loading::{load_test, load_tests};
 pub use mark::Ends;
 pub use meeting::terms_met;
 pub use snapshot::load_ordered;
-pub use term::load_term;
 pub use terms::load_terms;

@@ -1,66 +1,153 @@
-// Looking for the terms of a level near a place.
-ghost use Rattle.std.specs.Prelude.{◌≡◌, ◌⊎◌, ◌-◌, ℕ, Some, MatchOption, IsTrue, slice_get};
+// Looking for rising terms in a level.
+ghost use Rattle.std.specs.Prelude.{◌≡◌, Some, IfSome, IsTrue, slice_get};
 ghost use Rattle.std.specs.declared.cmp.Ordering.TheVariants.{Less};
 ghost use Rattle.alta_loading.specs.Met.{level_terms};
-ghost use Rattle.alta_loading.specs.Near.{order_to};
+ghost use Rattle.alta_loading.specs.Near.{IsBeside, order_to};
 
-use alta_table::OpenLevel;
+use alta_table::{OpenLevel, TermCursor};
 use std::cmp::Ordering;
+use std::marker::Model;
 
-/// The row of a term in a level, None exactly where it is not there. It looks at the place `near` first, and leaves there the place
-/// behind the row, or that at which the term would stand. So along rising terms, among which are those of all rows between, a look-up
-/// compares one row or two. With any other place it looks by halves.
-pub fn find_near(level: &OpenLevel, term: &[u8], near: &mut usize) -> Option<usize>
-    ensures { MatchOption result ((i : ℕ) → slice_get (level_terms level.now) i ≡ Some term.now → ⊥) (λ i. slice_get (level_terms level.now) i ≡ Some term.now) }
-{
-    // This call tells that the terms rise.
-    let _documents = level.documents();
-    let place = *near;
-    match order_at(level, term, place) {
-        Ordering::Equal => {
-            *near = place.saturating_add(1);
-            Some(place)
+/// Two rows of a level, one behind the other, and the place of the second.
+#[derive(Drop)]
+pub struct Beside<'a> {
+    pub before: TermCursor<'a>,
+    pub here: TermCursor<'a>,
+    pub place: usize,
+}
+
+/// A level in which terms are looked up, and the rows at which the look-up of the next one begins. Contracts see the level alone.
+#[derive(Drop)]
+pub struct Near<'a> {
+    level: &'a OpenLevel,
+    beside: Option<Beside<'a>>,
+}
+
+impl<'a> Model for Near<'a> {
+    ghost use Rattle.std.specs.Prelude.{IfSome};
+    ghost use Rattle.alta_loading.specs.Near.{IsBeside};
+    ghost use Rattle.alta_table.specs.Tables.{Tables};
+
+    ghost Value = { Tables };
+
+    ghost view = { λ n. n.level.now };
+
+    ghost invariant = { λ n. IfSome n.beside (λ b. IsBeside n.level.now b) };
+}
+
+impl<'a> Near<'a> {
+    ghost use Rattle.std.specs.Prelude.{◌≡◌, ℕ, Some, MatchOption, slice_get};
+    ghost use Rattle.alta_loading.specs.Met.{level_terms};
+
+    /// A level in which no term was looked up.
+    pub fn new(level: &'a OpenLevel) -> Near<'a>
+        ensures { result ≡ level.now }
+    {
+        Near {
+            level,
+            beside: None,
         }
-        Ordering::Greater if is_behind(level, term, place) => None,
-        _ => find_anew(level, term, near),
+    }
+
+    /// The row of a term, None exactly where it is not there. It looks at the rows behind that of the term before. So along rising terms,
+    /// among which are those of all rows between, a look-up compares one row or two. With any other term it looks by halves.
+    pub fn find(&mut self, term: &[u8]) -> Option<usize>
+        ensures level { self.new ≡ self.old }
+        ensures row { MatchOption result ((i : ℕ) → slice_get (level_terms self.old) i ≡ Some term.now → ⊥) (λ i. slice_get (level_terms self.old) i ≡ Some term.now) }
+    {
+        // This call tells that the terms rise.
+        let _documents = self.level.documents();
+        let Some(beside) = &self.beside else {
+            return self.find_anew(term);
+        };
+        let place = beside.place;
+        match order_of(&beside.here, term) {
+            Ordering::Equal => {
+                self.stand_behind(place);
+                Some(place)
+            }
+            Ordering::Greater if is_lower(&beside.before, term) => None,
+            _ => self.find_anew(term),
+        }
+    }
+
+    // The row of a term, looked for by halves.
+    fn find_anew(&mut self, term: &[u8]) -> Option<usize>
+        ensures level { self.new ≡ self.old }
+        ensures row { MatchOption result ((i : ℕ) → slice_get (level_terms self.old) i ≡ Some term.now → ⊥) (λ i. slice_get (level_terms self.old) i ≡ Some term.now) }
+    {
+        match self.level.find(term) {
+            Some(row) => {
+                self.beside = beside_at(self.level, row.saturating_add(1));
+                Some(row)
+            }
+            None => {
+                let (place, _behind) = self.level.prefixed(term);
+                self.beside = beside_at(self.level, place);
+                None
+            }
+        }
+    }
+
+    // Goes on behind the row at which the second of the two stands.
+    fn stand_behind(&mut self, place: usize)
+        ensures level { self.new ≡ self.old }
+    {
+        self.beside = match self.beside.take() {
+            Some(beside) => behind(self.level, beside),
+            None => beside_at(self.level, place),
+        };
     }
 }
 
-// How the term of a row stands to another. Behind the last row stands what is greater than any.
-fn order_at(level: &OpenLevel, term: &[u8], place: usize) -> Ordering
-    ensures { result ≡ order_to term.now (slice_get (level_terms level.now) place) }
+// The two rows one further on, if there are two.
+fn behind<'a>(level: &'a OpenLevel, beside: Beside<'a>) -> Option<Beside<'a>>
+    requires { IsBeside level.now beside }
+    ensures { IfSome result (λ b. IsBeside level.now b) }
 {
-    if place < level.terms() {
-        let cursor = level.at(place);
-        cursor.term().cmp(term)
-    } else {
-        Ordering::Greater
+    let Beside {
+        before,
+        here,
+        place,
+    } = beside;
+    if place + 1 >= level.terms() {
+        return None;
     }
+    let mut before = before;
+    let mut here = here;
+    before.next();
+    here.next();
+    Some(Beside {
+        before,
+        here,
+        place: place + 1,
+    })
 }
 
-// Whether the row before a place has a lower term than another, or the place is the first.
-fn is_behind(level: &OpenLevel, term: &[u8], place: usize) -> bool
-    ensures { IsTrue result → (place ≡ 0) ⊎ (order_to term.now (slice_get (level_terms level.now) (place - 1)) ≡ Less) }
+// The row before a place and the one at it, if there are both.
+fn beside_at<'a>(level: &'a OpenLevel, place: usize) -> Option<Beside<'a>>
+    ensures { IfSome result (λ b. IsBeside level.now b) }
 {
-    match place.checked_sub(1) {
-        Some(before) => order_at(level, term, before).is_lt(),
-        None => true,
+    if place == 0 || place >= level.terms() {
+        return None;
     }
+    Some(Beside {
+        before: level.at(place - 1),
+        here: level.at(place),
+        place,
+    })
 }
 
-// The row of a term, looked for by halves, and the same place behind.
-fn find_anew(level: &OpenLevel, term: &[u8], near: &mut usize) -> Option<usize>
-    ensures { MatchOption result ((i : ℕ) → slice_get (level_terms level.now) i ≡ Some term.now → ⊥) (λ i. slice_get (level_terms level.now) i ≡ Some term.now) }
+// How the term of a row stands to another.
+fn order_of(cursor: &TermCursor<'_>, term: &[u8]) -> Ordering
+    ensures { result ≡ order_to term.now (slice_get (level_terms cursor.now.tables) cursor.now.row) }
 {
-    match level.find(term) {
-        Some(row) => {
-            *near = row.saturating_add(1);
-            Some(row)
-        }
-        None => {
-            let (place, _behind) = level.prefixed(term);
-            *near = place;
-            None
-        }
-    }
+    cursor.term().cmp(term)
+}
+
+// Whether the term of a row is lower than another.
+fn is_lower(cursor: &TermCursor<'_>, term: &[u8]) -> bool
+    ensures { IsTrue result → order_to term.now (slice_get (level_terms cursor.now.tables) cursor.now.row) ≡ Less }
+{
+    order_of(cursor, term).is_lt()
 }

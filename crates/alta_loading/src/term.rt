@@ -1,10 +1,11 @@
 // The lists of a term.
-ghost use Rattle.std.specs.Prelude.{◌≡◌, ◌∷◌, ◌++◌, ◌^◌, ℕ, List, [], map, All, Err, IfOk, OnOk, Some, MatchOption, ◌<◌, length, slice_get, IsTrue};
+ghost use Rattle.std.specs.Prelude.{◌≡◌, ◌∷◌, ◌++◌, ◌^◌, ℕ, List, [], map, All, Err, IfOk, OnOk, Some, MatchOption, ◌<◌, length, slice_get, slice_index_or, IsTrue};
 ghost use Rattle.alta_content.specs.Rows.{ends_of};
 ghost use Rattle.alta_disk.specs.Disk.{DiskState};
 ghost use Rattle.alta_loading.specs.Lists.{KeepsRow, LiesWithin, stream_size};
 ghost use Rattle.alta_loading.specs.Loads.{KeepRows, Load, ReadsLists, list_at, load_at, load_in, loads_from, number_of, row_from};
 ghost use Rattle.alta_loading.specs.Met.{level_terms};
+ghost use Rattle.alta_loading.specs.Near.{AreNear, IsNearAt};
 ghost use Rattle.alta_loading.specs.Terms.{KeepTerm, if_some, lists_of_term, number_if_some, term_key};
 ghost use Rattle.alta_loading.specs.Tested.{AreEndsWhole, IsAllEnds};
 ghost use Rattle.alta_search.specs.Lists.{key_of, level_in, level_list, stored_list, term_lists};
@@ -12,7 +13,7 @@ ghost use Rattle.alta_table.specs.Tables.{Tables};
 
 use crate::list::load_list;
 use crate::mark::Ends;
-use crate::near::find_near;
+use crate::near::Near;
 use alta_codec::{Bytes, Loc};
 use alta_disk::{Disk, LoadFault};
 use alta_level::is_end_term;
@@ -25,25 +26,27 @@ use std::alloc::{AllocError, Global};
 /// Loads the lists of a term: those of the levels, that of the oldest level first, and behind them a copy of that of the newest
 /// documents. A list of a level is kept as it is coded, but that of all documents' ends, once it was tested, as the level's rows
 /// have it; where `ends` says that it was tested before, it is not read. The oldest level is numbered 0, and the newest documents are
-/// numbered behind all levels. A level without the term has no list. In each level the term is looked up near the place of `nears`
-/// that has the level's index, where there is one, and else by halves; behind it the place is where the next term is looked up.
+/// numbered behind all levels. A level without the term has no list. In each level the term is looked up behind the term before, by `nears`,
+/// which has all levels, and else by halves, where that is empty.
 ///
 /// # Errors
 ///
 /// `Damaged` exactly where one of the lists has a fault, at the first fault of the first list that has one. `Disk` where a
 /// read failed. `Memory` where there was no memory for the lists.
-pub fn load_term<D: Disk>(
+pub(crate) fn load_term<D: Disk>(
     alloc: Global,
     disk: &mut D,
     levels: &[OpenLevel],
     ends: Ends,
     newest: &MemLevel,
     term: Bytes,
-    nears: &mut [usize],
+    nears: &mut [Near<'_>],
 ) -> Result<TermLists, LoadFault>
     requires within { D.tells → All (λ level. LiesWithin level (D.state disk.old).content) levels.now }
     requires ends { D.tells → AreEndsWhole ends (D.state disk.old).content levels.now }
     requires sound { IsTrue newest.now.sound }
+    requires nears { AreNear levels.now nears.old }
+    ensures nears { nears.new ≡ nears.old }
     ensures key { IfOk result (λ lists. key_of lists ≡ term_key levels.now newest.now.content term) }
     ensures lists { D.tells → IfOk result (λ lists. term_lists lists ≡ lists_of_term levels.now newest.now.content (D.state disk.old).content term) }
     ensures kept { IfOk result (λ lists. KeepTerm levels.now newest.now.content term (term_lists lists)) }
@@ -88,10 +91,12 @@ fn load_coded<D: Disk>(
     levels: &[OpenLevel],
     ends: Ends,
     term: &[u8],
-    nears: &mut [usize],
+    nears: &mut [Near<'_>],
 ) -> Result<Vec<LevelList>, LoadFault>
     requires within { D.tells → All (λ level. LiesWithin level (D.state disk.old).content) levels.now }
     requires ends { D.tells → AreEndsWhole ends (D.state disk.old).content levels.now }
+    requires nears { AreNear levels.now nears.old }
+    ensures nears { nears.new ≡ nears.old }
     // One list for each level that has the term.
     ensures numbers { IfOk result (λ lists. map level_in lists.items ≡ map number_of (loads_from 0 levels.now term.now)) }
     // They are what stands on the disk.
@@ -128,10 +133,12 @@ fn load_next<D: Disk>(
     level: &OpenLevel,
     ends: Ends,
     term: &[u8],
-    nears: &mut [usize],
+    nears: &mut [Near<'_>],
 ) -> Result<(), LoadFault>
     requires within { D.tells → LiesWithin level.now (D.state disk.old).content }
     requires ends { D.tells → AreEndsWhole ends (D.state disk.old).content (level.now ∷ []) }
+    requires nears { IsNearAt level.now number nears.old }
+    ensures nears { nears.new ≡ nears.old }
     ensures numbers { OnOk result (map level_in lists.new.items ≡ map level_in lists.old.items ++ map number_of (load_in number level.now term.now)) }
     ensures lists { D.tells → OnOk result (map level_list lists.new.items ≡ map level_list lists.old.items ++ map (list_at (D.state disk.old).content) (load_in number level.now term.now)) }
     ensures kept { OnOk result ((before : List Load) → KeepRows before (map level_list lists.old.items) → KeepRows (before ++ load_in number level.now term.now) (map level_list lists.new.items)) }
@@ -149,18 +156,32 @@ fn load_next<D: Disk>(
     }
 }
 
-// The row of a term in the level of this number, near the place of the number, where there is one.
-fn row_of(level: &OpenLevel, term: &[u8], number: u64, nears: &mut [usize]) -> Option<usize>
+// The row of a term in the level of this number, behind that of the term before, where it was looked up.
+fn row_of(level: &OpenLevel, term: &[u8], number: u64, among: &mut [Near<'_>]) -> Option<usize>
+    requires { IsNearAt level.now number among.old }
+    ensures kept { among.new ≡ among.old }
     ensures row { result ≡ row_from 0 level.now.terms term.now }
     ensures within { MatchOption result (Unit {0}) (λ row. row < length level.now.terms) }
     ensures term { MatchOption result (Unit {0}) (λ row. slice_get (level_terms level.now) row ≡ Some term.now) }
 {
     // This call tells that the terms rise.
     let _documents = level.documents();
-    match nears.get_mut(number as usize) {
-        Some(near) => find_near(level, term, near),
-        None => level.find(term),
+    let number = number as usize;
+    if number < among.len() {
+        row_among(among, number, term)
+    } else {
+        level.find(term)
     }
+}
+
+// The row of a term in the level of this number, among these.
+fn row_among(among: &mut [Near<'_>], number: usize, term: &[u8]) -> Option<usize>
+    requires { number < length among.old }
+    ensures kept { among.new ≡ among.old }
+    ensures row { (d : Tables) → MatchOption result ((i : ℕ) → slice_get (level_terms (slice_index_or among.old number d)) i ≡ Some term.now → ⊥)
+        (λ i. slice_get (level_terms (slice_index_or among.old number d)) i ≡ Some term.now) }
+{
+    among[number].find(term)
 }
 
 // The list of a row of a level, which has this term.

@@ -1,23 +1,24 @@
 // The lists of several terms.
-// Terms come in collating order, and each row of a level that begins so has one of them: so beside the place of the term before, a
-// level that has the term compares one row, and another two, in place of a look-up by halves. A place is a hint of which no contract
-// speaks: with any other the row is the same.
+// Terms come in collating order, and each row of a level that begins so has one of them: so behind the term before, a level that has the
+// term compares one row, and another two, in place of a look-up by halves.
 ghost use Rattle.std.specs.Prelude.{◌≡◌, ℕ, List, map, All, Err, IfOk, IsTrue};
 ghost use Rattle.alta_disk.specs.Disk.{DiskState};
 ghost use Rattle.alta_loading.specs.Lists.{LiesWithin};
 ghost use Rattle.alta_loading.specs.Loads.{ReadsLists};
+ghost use Rattle.alta_loading.specs.Near.{AreNear};
 ghost use Rattle.alta_loading.specs.Terms.{KeepTerms, lists_of_term, loads_of, term_key};
 ghost use Rattle.alta_loading.specs.Tested.{AreEndsWhole};
 ghost use Rattle.alta_search.specs.Lists.{key_of, term_lists};
 
 use crate::mark::Ends;
+use crate::near::Near;
 use crate::term::load_term;
 use alta_codec::Bytes;
 use alta_disk::{Disk, LoadFault};
 use alta_memlevel::MemLevel;
 use alta_search::TermLists;
 use alta_table::OpenLevel;
-use std::alloc::Global;
+use std::alloc::{AllocError, Global};
 
 /// Loads the lists of each of these terms, one term after the other, as [`crate::load_term`] loads those of one. Each is looked up in
 /// a level near the place of the term before, so terms in collating order are found in a few steps each.
@@ -42,7 +43,7 @@ pub fn load_terms<D: Disk>(
     ensures loads { ReadsLists D.tells (loads_of levels.now terms.items) (D.state disk.old) (D.state disk.new) result }
 {
     let mut loaded = Vec::with_capacity(alloc, terms.len())?;
-    let mut nears = vec![in alloc; 0usize; places(terms.len(), levels.len())]?;
+    let mut nears = nears_of(alloc, levels, terms.len())?;
     for term in terms {
         match load_term(alloc, disk, levels, ends, newest, term, &mut nears) {
             Ok(lists) => loaded.push(lists)?,
@@ -52,7 +53,28 @@ pub fn load_terms<D: Disk>(
     Ok(loaded)
 }
 
-// At how many places of levels terms are looked up: in each level, but at none where the term is alone and has none before it.
-fn places(terms: usize, levels: usize) -> usize {
-    if terms > 1 { levels } else { 0 }
+// The levels in which so many terms are looked up one behind the other. A term that is alone has none before it.
+fn nears_of<'a>(
+    alloc: Global,
+    levels: &'a [OpenLevel],
+    terms: usize,
+) -> Result<Vec<Near<'a>>, AllocError>
+    ensures { IfOk result (λ nears. AreNear levels.now nears.items) }
+{
+    if terms < 2 {
+        return Ok(Vec::new(alloc));
+    }
+    let nears = all_near(alloc, levels)?;
+    Ok(nears)
+}
+
+// All levels, to look up terms in them.
+fn all_near<'a>(alloc: Global, levels: &'a [OpenLevel]) -> Result<Vec<Near<'a>>, AllocError>
+    ensures { IfOk result (λ nears. nears.items ≡ levels.now) }
+{
+    let mut nears = Vec::with_capacity(alloc, levels.len())?;
+    for level in levels {
+        nears.push(Near::new(level))?;
+    }
+    Ok(nears)
 }

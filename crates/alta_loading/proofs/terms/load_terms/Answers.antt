@@ -1,8 +1,9 @@
 use Rattle.std.proofs.Common.{◌≡◌, ℕ, List, [], ◌∷◌, ◌++◌, Vec, Global, Ok, length, map, refl, sym, subst, ap, ◌∙◌, arith, rules}
-use Rattle.std.proofs.lemmas.List.{map_push}
+use Rattle.std.proofs.lemmas.List.{map_push, take_at}
 use Rattle.alta_loading.proofs.Runs.{loads_value, tells_value}
 use Rattle.alta_loading.proofs.TermRuns.{terms_cost, terms_ended, terms_on}
 use Rattle.alta_loading.specs.Loads.{ReadsLists, loads_from}
+use Rattle.alta_loading.specs.Near.{AreNear}
 use Rattle.alta_loading.specs.Terms.{loads_of}
 use Rattle.alta_search.proofs.Loads.{front-all, front-more}
 use Rattle.alta_search.specs.Lists.{TermKey, key_of, term_lists}
@@ -23,7 +24,11 @@ loop-term-preserved g c =
     let same : l.term ≡ term = ap (λ (k : TermKey). k.term) is.key in
     let done = map (λ (t : TermLists). t.term) xs in
     let now : map (λ (t : TermLists). t.term) ys ≡ done ++ term ∷ [] =
-    ap (map (λ (t : TermLists). t.term)) pushed ∙ map_push (λ (t : TermLists). t.term) xs l ∙ ap (λ (t : List ℕ). done ++ t ∷ []) same in record {
+    ap (map (λ (t : TermLists). t.term)) pushed ∙ map_push (λ (t : TermLists). t.term) xs l ∙ ap (λ (t : List ℕ). done ++ t ∷ []) same in
+    let same_nears : c.load_term.new.nears ≡ c.loop-term.nears.items = c.load_term.ensures.nears ∙ c.deref_mut.ensures.value in
+    let long : length c.load_term.new.nears ≡ c.loop-term.nears.len = omega (arith, ap length same_nears, c.loop-term.nears.ok.0) in
+    record {
+      nears = subst (AreNear levels) (sym (take_at c.load_term.new.nears _ _ long ∙ same_nears)) inv.nears;
       split = front-more (λ (t : TermLists). t.term) xs ys l pushed term left rest c.args.terms.items here same inv.split;
       run = terms_on g.D.Disk.tells levels newest done (map key_of xs) (map term_lists xs) (g.D.Disk.state c.args.disk.now) (g.D.Disk.state c.loop-term.disk) inv.run term (g.D.Disk.state c.load_term.new.disk) c.load_term.ensures.loads.retrieves.reads
           (map key_of ys) (map term_lists ys) (map (λ (t : TermLists). t.term) ys) (key_of l) (term_lists l) now (ap (map key_of) pushed ∙ map_push key_of xs l) (ap (map term_lists) pushed ∙ map_push term_lists xs l)
