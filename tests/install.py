@@ -37,7 +37,7 @@ class Client(unittest.TestCase):
         shutil.copytree(os.path.join(TOP, "client"), client, ignore=shutil.ignore_patterns("__pycache__"))
         before = sorted(os.listdir(client))
         words = ["install", "--quiet", "--no-index", "--no-deps", "--target", cls.place, client]
-        done(*pip, *words, env={**os.environ, "PIP_ROOT_USER_ACTION": "ignore"})
+        done(*pip, *words, env={**os.environ, "PIP_ROOT_USER_ACTION": "ignore", "PYTHONDONTWRITEBYTECODE": "1"})
         assert sorted(os.listdir(client)) == before, "pip has left something in the folder"
         cls.bunco = os.path.join(cls.place, "bin", "bunco")
         cls.environment = {**os.environ, "PYTHONPATH": cls.place, "BUNCOCEDAR_PROGRAM": PROGRAM}
