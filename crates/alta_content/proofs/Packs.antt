@@ -183,13 +183,10 @@ put_behind n row gap rows rows' gaps gaps' l p rl gl r g f =
     rw (rs, gs) (list_put n (drop row rows) (drop gap gaps) l p f, (packs_put n (drop row rows) (drop gap gaps) l p f, rows_long, gaps_long))
 
 -- what holds once the first list was dropped
-pub skipped : (n row gap row' gap' : ℕ) (rows gaps : List ℕ) → 0 < n
-    → Packs (drop row rows) (drop gap gaps) (lists_in n (drop row rows) (drop gap gaps))
-    → drop row' rows ≡ (row_in (drop row rows)).behind → drop gap' gaps ≡ drop (row_in (drop row rows)).gaps (drop gap gaps)
-    → (lists_in (n - 1) (drop row' rows) (drop gap' gaps) ≡ drop 1 (lists_in n (drop row rows) (drop gap gaps)))
-    × Packs (drop row' rows) (drop gap' gaps) (lists_in (n - 1) (drop row' rows) (drop gap' gaps))
-skipped n row gap row' gap' rows gaps l p r g =
-    rw (r, g) (lists_skip n (drop row rows) (drop gap gaps) l, packs_skip n (drop row rows) (drop gap gaps) l p)
+pub skipped : (n : ℕ) (rows gaps rows' gaps' : List ℕ) → 0 < n → Packs rows gaps (lists_in n rows gaps)
+    → rows' ≡ (row_in rows).behind → gaps' ≡ drop (row_in rows).gaps gaps
+    → (lists_in (n - 1) rows' gaps' ≡ drop 1 (lists_in n rows gaps)) × Packs rows' gaps' (lists_in (n - 1) rows' gaps')
+skipped n rows gaps rows' gaps' l p r g = rw (r, g) (lists_skip n rows gaps l, packs_skip n rows gaps l p)
 
 -- a place so far behind another, or at the end where there are fewer, leaves as much
 pub drop_again : {X : Type 0} (n m k : ℕ) (xs : List X) → k ≡ min (n + m) (length xs) → drop k xs ≡ drop m (drop n xs)

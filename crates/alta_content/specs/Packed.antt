@@ -20,6 +20,12 @@ gaps_bytes before (x ∷ xs) = number_bytes (gap before x) ++ gaps_bytes x xs
 abbrev pub list_gaps : TermList → List ℕ
 list_gaps l = gaps_bytes 0 l.locations
 
+-- the bytes are the gaps of so many locations
+pub record AreGaps (bytes : List ℕ) (count : ℕ) (locations : List ℕ) : Type 0 where
+  pub spelled : bytes ≡ gaps_bytes 0 locations
+  pub counted : length locations ≡ count
+  pub small : All (λ x. x < 2 ^ 64) locations
+
 -- a list's term, behind its length, then how many locations it has, and how many bytes their gaps have
 abbrev pub row_bytes : TermList → List ℕ
 row_bytes l = number_bytes (length l.term) ++ (l.term ++ (number_bytes (length l.locations) ++ number_bytes (length (list_gaps l))))

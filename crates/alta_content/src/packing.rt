@@ -67,7 +67,7 @@ pub(crate) fn row_at(rows: &[u8], at: usize) -> RowAt
 pub(crate) fn put_row(
     rows: &mut Vec<u8>,
     term: &[u8],
-    count: usize,
+    count: u64,
     gaps: usize,
 ) -> Result<(), AllocError>
     ensures { rows.new.items ≡ (if is_ok result then rows.old.items ++ (number_bytes (length term.now) ++ (term.now ++ (number_bytes count ++ number_bytes gaps))) else rows.old.items) }
@@ -81,13 +81,13 @@ pub(crate) fn put_row(
 }
 
 // The same, where on want of memory a part may be appended.
-fn append_row(rows: &mut Vec<u8>, term: &[u8], count: usize, gaps: usize) -> Result<(), AllocError>
+fn append_row(rows: &mut Vec<u8>, term: &[u8], count: u64, gaps: usize) -> Result<(), AllocError>
     ensures row { OnOk result (rows.new.items ≡ rows.old.items ++ (number_bytes (length term.now) ++ (term.now ++ (number_bytes count ++ number_bytes gaps)))) }
     ensures front { take (length rows.old.items) rows.new.items ≡ rows.old.items }
 {
     put_number(rows, term.len() as u64)?;
     rows.extend_from_slice(term)?;
-    put_number(rows, count as u64)?;
+    put_number(rows, count)?;
     put_number(rows, gaps as u64)
 }
 

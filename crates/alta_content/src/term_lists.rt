@@ -1,9 +1,11 @@
 // The terms of a content with their locations, packed.
-ghost use Rattle.std.specs.Prelude.{◌≡◌, ◌<◌, ◌++◌, [], drop, length, MatchOption, OnOk};
+ghost use Rattle.std.specs.Prelude.{◌≡◌, ◌<◌, ◌++◌, ℕ, List, [], drop, length, flat_map, IfOk, MatchOption, OnOk};
 ghost use Rattle.alta_codec.specs.Lists.{Pushes};
 ghost use Rattle.alta_content.specs.Fronts.{front_locations, front_term};
+ghost use Rattle.alta_content.specs.Packed.{AreGaps, list_gaps};
 
 use crate::packing::{put_gaps, put_locations_at, put_row, row_at, term_at};
+use crate::passed::give_back;
 use alta_codec::{Len, Loc};
 use std::alloc::{AllocError, Global};
 use std::default::MadeWith;
@@ -62,6 +64,27 @@ impl Len for TermLists {
 }
 
 impl TermLists {
+    /// No terms, with room for locations whose gaps have so many bytes.
+    pub fn with_room(alloc: Global, bytes: usize) -> Result<TermLists, AllocError>
+        ensures { IfOk result (λ lists. lists ≡ []) }
+    {
+        let gaps = Vec::with_capacity(alloc, bytes)?;
+        Ok(TermLists {
+            count: 0,
+            rows: Vec::new(alloc),
+            row: 0,
+            gaps,
+            gap: 0,
+        })
+    }
+
+    /// How many bytes the gaps of the locations that are left have.
+    pub fn room(&self) -> usize
+        ensures { result ≡ length (flat_map list_gaps self.now) }
+    {
+        self.gaps.len() - self.gap
+    }
+
     /// Adds a term with its locations at the end. Where memory is wanting the lists stay.
     pub fn put(&mut self, term: &[u8], locations: &[Loc]) -> Result<(), AllocError>
         ensures { Pushes (record { term = term.now; locations = locations.now }) self.old self.new result }
@@ -69,8 +92,24 @@ impl TermLists {
         let gaps = self.gaps.len();
         put_gaps(&mut self.gaps, locations)?;
         let bytes = self.gaps.len() - gaps;
-        if put_row(&mut self.rows, term, locations.len(), bytes).is_err() {
+        if put_row(&mut self.rows, term, locations.len() as u64, bytes).is_err() {
             self.gaps.truncate(gaps);
+            return Err(AllocError);
+        }
+        self.count += 1;
+        Ok(())
+    }
+
+    /// Adds a term with so many locations at the end, whose gaps are these bytes. They are copied. Where memory is wanting the lists
+    /// stay.
+    pub fn put_spelled(&mut self, term: &[u8], count: u64, gaps: &[u8]) -> Result<(), AllocError>
+        requires { (locations : List ℕ) × AreGaps gaps.now count locations }
+        ensures { (locations : List ℕ) → AreGaps gaps.now count locations → Pushes (record { term = term.now; locations = locations }) self.old self.new result }
+    {
+        let before = self.gaps.len();
+        self.gaps.extend_from_slice(gaps)?;
+        if put_row(&mut self.rows, term, count, gaps.len()).is_err() {
+            self.gaps.truncate(before);
             return Err(AllocError);
         }
         self.count += 1;
@@ -99,7 +138,7 @@ impl TermLists {
         put_locations_at(all, &self.gaps, self.gap, row.count)
     }
 
-    /// Drops the first term, if there is one.
+    /// Drops the first term, if there is one. The memory of terms that were dropped is given back as they become many.
     pub fn skip(&mut self)
         ensures { self.new ≡ drop 1 self.old }
     {
@@ -108,8 +147,9 @@ impl TermLists {
         }
         let row = row_at(&self.rows, self.row);
         let behind = self.gap.saturating_add(row.gaps as usize);
-        self.row = row.behind;
-        self.gap = behind.min(self.gaps.len());
+        let behind = behind.min(self.gaps.len());
+        self.row = give_back(&mut self.rows, row.behind);
+        self.gap = give_back(&mut self.gaps, behind);
         self.count -= 1;
     }
 }

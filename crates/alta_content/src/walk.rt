@@ -119,4 +119,20 @@ impl<'a> RowWalk<'a> {
         self.place = first_from(self.levels, self.place, end);
         index_of(self.levels, self.place, end)
     }
+
+    /// Goes on to the first row whose end is at or above `end`, and answers its index, if there is one. It looks at about 2 log n ends
+    /// to pass n rows.
+    pub fn reach(&mut self, end: Loc) -> Option<usize>
+        requires { IsPast self.old end }
+        ensures rows { self.new.rows ≡ self.old.rows }
+        ensures past { IsPast self.new end }
+        ensures some { IfSome result (λ i. (i ≡ self.new.at) × (i < length self.old.rows) × (end ≤ slice_index (ends_of self.old.rows) i)) }
+        ensures none { result ≡ None → length self.old.rows ≤ self.new.at }
+    {
+        self.place = first_from(self.levels, self.place, end);
+        if self.place.level >= self.levels.len() {
+            return None;
+        }
+        Some(self.place.before + self.place.index)
+    }
 }

@@ -8,3 +8,4 @@ pub mod OldestLaws
 pub mod OpenedLaws
 pub mod RowSteps
 pub mod SpaceLaws
+pub mod StreamGaps

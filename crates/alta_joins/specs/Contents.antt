@@ -1,11 +1,13 @@
 -- Levels whose tables were opened, and their contents.
-use Rattle.std.specs.Prelude.{◌≡◌, ℕ, ◌+◌, ◌≤◌, List, [], ◌∷◌, length, slice_index, slice_index_or, Ok}
+use Rattle.std.specs.Prelude.{◌≡◌, ℕ, ◌+◌, ◌≤◌, List, [], ◌∷◌, length, take, slice_index, slice_index_or, Ok}
 use Rattle.alta_content.specs.Lists.{IsContent}
+use Rattle.alta_content.specs.TermList.{TermList}
 use Rattle.alta_content.specs.declared.content.Content.{Content}
 use Rattle.alta_meaning.specs.Levels.{Level}
 use Rattle.alta_meaning.specs.Opened.{bytes_at, tables_at, extent_of}
 use Rattle.alta_meaning.specs.Standing.{tables_by}
 use Rattle.alta_level.specs.Segments.{IsSegment}
+use Rattle.alta_postings.specs.Deltas.{decoded_list}
 use Rattle.alta_table.specs.Tables.{Tables, total_of}
 use Rattle.alta_table.specs.Terms.{counts_of, data_bytes, streams_of, summaries_of, terms_of}
 use Rattle.alta_table.specs.declared.term.TermRow.{TermRow}
@@ -23,6 +25,10 @@ row_at level i = record {
   stream = slice_index (streams_of level.terms) i;
   summary = slice_index (summaries_of level.terms) i;
 }
+
+-- the list of a row, whose stream begins these bytes
+abbrev pub list_at : TermRow → List ℕ → TermList
+list_at row bytes = record { term = row.term; locations = decoded_list (take row.stream bytes) }
 
 -- how many bytes the streams and summaries of a level have
 abbrev pub data_size : Tables → ℕ

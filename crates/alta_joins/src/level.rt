@@ -7,7 +7,7 @@ ghost use Rattle.alta_disk.specs.Calls.{Retrieves};
 ghost use Rattle.alta_disk.specs.Disk.{DiskState};
 ghost use Rattle.alta_meaning.specs.Broken.{IsBrokenIn};
 ghost use Rattle.alta_disk.specs.Answers.{IfDamaged, IsDamaged, IsFound};
-ghost use Rattle.alta_joins.specs.Contents.{IsContentOf, IsSegmentOn, StandsOn, row_at};
+ghost use Rattle.alta_joins.specs.Contents.{IsContentOf, IsSegmentOn, StandsOn, list_at, row_at};
 ghost use Rattle.alta_joins.specs.Damages.{IsDamageOn};
 ghost use Rattle.alta_disk.specs.declared.fault.LoadFault.TheVariants.{Disk as DiskFault, Memory};
 ghost use Rattle.alta_level.specs.Damage.{AreListsOf, IsFaultInLists, data_place, stored_at};
@@ -16,17 +16,16 @@ ghost use Rattle.alta_level.specs.Stored.{IsListFault, IsListOf, stored_of};
 ghost use Rattle.alta_table.specs.Tables.{tables_bytes};
 ghost use Rattle.alta_table.specs.Terms.{data_bytes};
 
-use alta_codec::{Extent, Loc};
-use alta_content::{Content, DocRows, TermLists};
+use alta_codec::Extent;
+use alta_content::{Content, DocRows, TermLists, give_back};
 use alta_disk::{Disk, LoadFault, read_part};
-use alta_level::{StoredList, read_list, segments_read_back};
+use alta_level::{StoredList, check_list, segments_read_back};
 use alta_table::{LevelFault, OpenLevel, TermCursor};
 use std::alloc::Global;
-use std::default::MadeWith;
 
 /// Reads the content of a level. Its streams and summaries stand one behind the other, and are read by one read of the disk. The
-/// rows are those of the tables that were opened, and are copied. Each list is tested as [`alta_level::read_list`] tests it, and
-/// each number of a stream is read once. The memory is that of what is read, of the content and of the longest list.
+/// rows are those of the tables that were opened, and are copied. Each list is tested as [`alta_level::check_list`] tests it, and its
+/// stream is copied. The memory of what is read is given back as the lists are copied, so the content takes little more beside it.
 ///
 /// # Errors
 ///
@@ -53,7 +52,7 @@ pub fn read_level<D: Disk>(
     segments_read_back();
     let extent = data_extent(level)?;
     let bytes = read_part(alloc, disk, extent.place, extent.bytes)?;
-    content_in(alloc, level, &bytes, extent.place)
+    content_in(alloc, level, bytes, extent.place)
 }
 
 // Where the streams and summaries of a level stand.
@@ -81,15 +80,15 @@ fn data_extent(level: &OpenLevel) -> Result<Extent, LoadFault>
 fn content_in(
     alloc: Global,
     level: &OpenLevel,
-    bytes: &[u8],
+    bytes: Vec<u8>,
     place: u64,
 ) -> Result<Content, LoadFault>
-    requires long { length bytes.now ≡ data_bytes level.now.terms }
+    requires long { length bytes.items ≡ data_bytes level.now.terms }
     requires place { place ≡ data_place level.now }
-    requires below { place + length bytes.now < 2 ^ 64 }
+    requires below { place + length bytes.items < 2 ^ 64 }
     ensures kept { IfOk result (IsContentOf level.now) }
-    ensures segment { IfOk result (IsSegment (tables_bytes level.now.documents level.now.terms ++ bytes.now)) }
-    ensures first { IfDamaged result (IsFaultInLists level.now.documents level.now.terms bytes.now (data_place level.now)) }
+    ensures segment { IfOk result (IsSegment (tables_bytes level.now.documents level.now.terms ++ bytes.items)) }
+    ensures first { IfDamaged result (IsFaultInLists level.now.documents level.now.terms bytes.items (data_place level.now)) }
     ensures lean { result ≢ Err DiskFault }
 {
     let lists = match lists_in(alloc, level, bytes, place) {
@@ -103,54 +102,44 @@ fn content_in(
     })
 }
 
-// The lists of all rows, whose streams and summaries stand one behind the other. No list takes memory of its own.
+// The lists of all rows, whose streams and summaries stand one behind the other. No list takes memory of its own: their streams are
+// copied into room for all, and the memory of the bytes is given back as they are read.
 fn lists_in(
     alloc: Global,
     level: &OpenLevel,
-    bytes: &[u8],
+    bytes: Vec<u8>,
     place: u64,
 ) -> Result<TermLists, LoadFault>
-    requires whole { data_bytes level.now.terms ≤ length bytes.now }
-    requires below { place + length bytes.now < 2 ^ 64 }
-    ensures found { IfOk result (AreListsOf level.now.documents level.now.terms bytes.now place) }
-    ensures first { IfDamaged result (IsFaultInLists level.now.documents level.now.terms bytes.now place) }
+    requires whole { data_bytes level.now.terms ≤ length bytes.items }
+    requires below { place + length bytes.items < 2 ^ 64 }
+    ensures found { IfOk result (AreListsOf level.now.documents level.now.terms bytes.items place) }
+    ensures first { IfDamaged result (IsFaultInLists level.now.documents level.now.terms bytes.items place) }
     ensures lean { result ≢ Err DiskFault }
 {
-    let mut lists = TermLists::made_with(alloc);
-    let mut locations = Vec::new(alloc);
-    let mut places = Vec::new(alloc);
+    let mut lists = TermLists::with_room(alloc, bytes.len())?;
     let mut rest = bytes;
+    let mut front = 0;
     let mut at = place;
     let mut cursor = level.first();
     for row in 0..level.terms() {
         let (stream, summary) = cursor.stream_place();
         let len = stream.bytes + summary.bytes;
-        match put_row(
-            &mut lists,
-            &mut locations,
-            &mut places,
-            level,
-            &cursor,
-            rest,
-            at,
-        ) {
+        let (_passed, here) = rest.split_at(front);
+        match put_row(&mut lists, level, &cursor, here, at) {
             Ok(()) => {}
             Err(fault) => return Err(fault),
         }
-        let (_list, behind) = rest.split_at(len as usize);
-        rest = behind;
+        front = give_back(&mut rest, front + len as usize);
         at += len;
         cursor.next();
     }
     Ok(lists)
 }
 
-// Puts the list of the row at which a cursor stands. Its stream begins the bytes, which begin at a place. Its locations are left in
-// `locations`.
+// Puts the list of the row at which a cursor stands. Its stream begins the bytes, which begin at a place, and is copied: it spells the
+// gaps of its locations.
 fn put_row(
     lists: &mut TermLists,
-    locations: &mut Vec<Loc>,
-    places: &mut Vec<u64>,
     level: &OpenLevel,
     cursor: &TermCursor<'_>,
     bytes: &[u8],
@@ -158,15 +147,15 @@ fn put_row(
 ) -> Result<(), LoadFault>
     requires whole { (row_at cursor.now.tables cursor.now.row).stream + (row_at cursor.now.tables cursor.now.row).summary ≤ length bytes.now }
     requires below { place + length bytes.now < 2 ^ 64 }
-    ensures put { IfOk result (λ x. lists.new ≡ lists.old ++ (record { term = (row_at cursor.now.tables cursor.now.row).term; locations = locations.new.items }) ∷ []) }
-    ensures found { IfOk result (λ x. IsListOf level.now.documents (stored_at (row_at cursor.now.tables cursor.now.row) bytes.now place) locations.new.items) }
+    ensures put { IfOk result (λ x. lists.new ≡ lists.old ++ (list_at (row_at cursor.now.tables cursor.now.row) bytes.now) ∷ []) }
+    ensures found { IfOk result (λ x. IsListOf level.now.documents (stored_at (row_at cursor.now.tables cursor.now.row) bytes.now place) (list_at (row_at cursor.now.tables cursor.now.row) bytes.now).locations) }
     ensures first { IfDamaged result (IsListFault level.now.documents (stored_at (row_at cursor.now.tables cursor.now.row) bytes.now place)) }
     ensures lean { result ≢ Err DiskFault }
 {
     let list = stored(cursor, bytes, place);
-    match read_list(locations, places, &list, level.rows()) {
-        Ok(()) => {
-            lists.put(list.term, locations)?;
+    match check_list(&list, level.rows()) {
+        Ok(_bounds) => {
+            lists.put_spelled(list.term, list.count, list.stream)?;
             Ok(())
         }
         Err(LevelFault::Damaged(place)) => Err(LoadFault::Damaged(place)),

@@ -35,9 +35,10 @@ impl From<Failed> for JournalFault {
     }
 }
 
-/// Appends a record at the tail of its half, by two writes, each with its sync. After `Ok` every image that a stop may
-/// leave has the record, under a root of a version that may have it, and behind it a closed gate, and all else as it was, and the tail stands there. At each moment before, an image has the records that it had,
-/// with the new one or without, and each byte outside the record and the next gate.
+/// Appends a record at the tail of its half, by two writes, each with its sync. After `Ok` every image that a stop may leave has the
+/// record, under a root of a version that may have it, and behind it a closed gate, and all else as it was, and the tail stands
+/// there. At each moment before, an image has the records that it had, with the new one or without, and each byte outside the record
+/// and the next gate.
 ///
 /// In every image that a stop may leave, a closed gate stands at the tail's place.
 ///

@@ -1,5 +1,6 @@
 -- Entries of terms, and their data, one list after the other.
-use Rattle.std.proofs.Common.{◌≡◌, ℕ, zero, suc, ◌<◌, List, [], ◌∷◌, ◌++◌, length, drop, get_or, refl, sym, ap, ◌∙◌, arith, append_assoc, append-nil}
+use Rattle.std.proofs.Common.{◌≡◌, ℕ, zero, suc, ◌<◌, List, [], ◌∷◌, ◌++◌, length, drop, take, get_or, refl, sym, ap, ◌∙◌, arith, append_assoc, append-nil}
+use Rattle.std.proofs.Math.Seq.{drop-append_seam, take-append_seam}
 use Rattle.std.specs.Prelude.{flat_map}
 use Rattle.alta_codec.specs.Rising.{IsRising}
 use Rattle.alta_content.specs.declared.document.DocRow.{DocRow}
@@ -34,18 +35,24 @@ head_same documents terms document_bytes term_bytes rows lists a b c d =
     let k : ℕ → Head = λ x. record { documents = length rows; terms = length (rows_of lists); document_bytes = length (documents_bytes rows); term_bytes = x } in
     ap f a ∙ ap g (b ∙ sym (rows_many lists)) ∙ ap h c ∙ ap k d
 
-pub assembled : (content : Content) (head : Head) (b0 b1 b2 b3 b4 first second streams : List ℕ) → b0 ≡ [] → b1 ≡ b0 ++ head_bytes head → b2 ≡ b1 ++ first → b3 ≡ b2 ++ second → b4 ≡ b3 ++ streams
+-- head and tables were put behind the streams, and then turned in front of them
+pub assembled : (content : Content) (head : Head) (size : ℕ) (b1 b2 b3 b4 first second streams : List ℕ) → b1 ≡ streams ++ head_bytes head → b2 ≡ b1 ++ first → b3 ≡ b2 ++ second
+    → size ≡ length streams → b4 ≡ drop size b3 ++ take size b3
     → first ≡ documents_bytes content.documents → second ≡ terms_bytes (rows_of content.lists) → streams ≡ flat_map list_bytes content.lists
     → head.documents ≡ length content.documents → head.terms ≡ length content.lists → head.document_bytes ≡ length first → head.term_bytes ≡ length second → b4 ≡ segment_bytes content
 unfolding segment_bytes
-assembled content head b0 b1 b2 b3 b4 first second streams e0 e1 e2 e3 e4 d t s n m x y =
+assembled content head size b1 b2 b3 b4 first second streams e1 e2 e3 long e4 d t s n m x y =
     let same : head ≡ head_of content.documents (rows_of content.lists) =
     head_same head.documents head.terms head.document_bytes head.term_bytes content.documents content.lists n m (x ∙ ap length d) (y ∙ ap length t) in
     let h = head_bytes head in
-    let one : b1 ≡ h = e1 ∙ ap (λ z. z ++ h) e0 in
-    let all : b4 ≡ ((h ++ first) ++ second) ++ streams = e4 ∙ ap (λ z. z ++ streams) (e3 ∙ ap (λ z. z ++ second) (e2 ∙ ap (λ z. z ++ first) one)) in
-    all ∙ ap (λ z. z ++ streams) (append_assoc h first second)
-    ∙ ap (λ z. (h ++ (first ++ second)) ++ z) s ∙ ap (λ z. (h ++ (first ++ z)) ++ flat_map list_bytes content.lists) t
+    let front = h ++ (first ++ second) in
+    let behind : b3 ≡ streams ++ front =
+    e3 ∙ ap (λ z. z ++ second) (e2 ∙ ap (λ z. z ++ first) e1 ∙ append_assoc streams h first)
+    ∙ append_assoc streams (h ++ first) second ∙ ap (λ z. streams ++ z) (append_assoc h first second) in
+    let turned : b4 ≡ front ++ streams =
+    e4 ∙ ap (λ k. drop k b3 ++ take k b3) long ∙ ap (λ z. drop (length streams) z ++ take (length streams) z) behind
+    ∙ ap (λ z. z ++ take (length streams) (streams ++ front)) (drop-append_seam streams front) ∙ ap (λ z. front ++ z) (take-append_seam streams front) in
+    turned ∙ ap (λ z. front ++ z) s ∙ ap (λ z. (h ++ (first ++ z)) ++ flat_map list_bytes content.lists) t
     ∙ ap (λ z. (h ++ (z ++ terms_bytes (rows_of content.lists))) ++ flat_map list_bytes content.lists) d
     ∙ ap (λ z. (head_bytes z ++ (documents_bytes content.documents ++ terms_bytes (rows_of content.lists))) ++ flat_map list_bytes content.lists) same
 

@@ -1,6 +1,6 @@
 // The segment of a content.
-// `build` uses its content up: its lists are let go before head, tables and streams are put together, so a flush or a merge holds
-// the content and the segment in turn.
+// `build` uses its content up: the memory of its lists is given back as they are spelled, and head and tables come in front of the
+// streams where these lie. So a flush or a merge holds about as much as the segment has.
 ghost use Rattle.std.specs.Prelude.{◌≡◌, ℕ, ◌++◌, ◌∷◌, [], ◌<◌, ◌≤◌, length, slice_index_or, OnOk, IfOk, flat_map};
 ghost use Rattle.std.specs.List.{All};
 ghost use Rattle.alta_codec.specs.Rising.{IsRising};
@@ -71,17 +71,17 @@ fn put_lists(
     Ok(())
 }
 
-// A segment of so many rows and lists, from its parts.
+// A segment of so many rows and lists, from its parts. Head and tables come in front of the streams where these lie, so that none
+// of it stands in memory twice.
 fn assemble(
-    alloc: Global,
     rows: usize,
     lists: usize,
     documents: &[u8],
     terms: &[u8],
-    streams: &[u8],
+    streams: Vec<u8>,
 ) -> Result<Vec<u8>, AllocError>
     ensures { (content : Content) → rows ≡ length content.documents → lists ≡ length content.lists
-        → documents.now ≡ documents_bytes content.documents → terms.now ≡ terms_bytes (rows_of content.lists) → streams.now ≡ flat_map list_bytes content.lists
+        → documents.now ≡ documents_bytes content.documents → terms.now ≡ terms_bytes (rows_of content.lists) → streams.items ≡ flat_map list_bytes content.lists
         → IfOk result (λ bytes. bytes.items ≡ segment_bytes content) }
 {
     let head = Head {
@@ -90,18 +90,17 @@ fn assemble(
         document_bytes: documents.len() as u64,
         term_bytes: terms.len() as u64,
     };
-    let tables = documents.len().saturating_add(terms.len());
-    let size = tables.saturating_add(streams.len()).saturating_add(32);
-    let mut bytes = Vec::with_capacity(alloc, size)?;
+    let size = streams.len();
+    let mut bytes = streams;
     put_head(&mut bytes, &head)?;
     bytes.extend_from_slice(documents)?;
     bytes.extend_from_slice(terms)?;
-    bytes.extend_from_slice(streams)?;
+    bytes.rotate_left(size);
     Ok(bytes)
 }
 
 /// The segment of a content: its head, its documents, its terms, then the stream and the summary of each term. It makes
-/// one pass over the lists. The content is used up: its lists are gone before the parts are put together.
+/// one pass over the lists. The content is used up: the memory of its lists is given back as they are spelled.
 pub fn build(alloc: Global, content: Content) -> Result<Vec<u8>, AllocError>
     requires { IsContent content }
     ensures { IfOk result (λ bytes. bytes.items ≡ segment_bytes content) }
@@ -113,5 +112,5 @@ pub fn build(alloc: Global, content: Content) -> Result<Vec<u8>, AllocError>
     let mut terms = Vec::new(alloc);
     let mut streams = Vec::new(alloc);
     put_lists(alloc, &mut terms, &mut streams, content.lists)?;
-    assemble(alloc, rows, lists, &documents, &terms, &streams)
+    assemble(rows, lists, &documents, &terms, streams)
 }

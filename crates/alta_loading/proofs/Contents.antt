@@ -117,7 +117,7 @@ if_some_is (x ∷ xs) some = refl
 
 -- ---- the law
 
-spelled_is : (documents : List DocRow) (s : Stored) (list : List ℕ) → IsListOf documents s list → decoded_list s.stream ≡ list
+pub spelled_is : (documents : List DocRow) (s : Stored) (list : List ℕ) → IsListOf documents s list → decoded_list s.stream ≡ list
 spelled_is documents s list h = (spelling_reads s.stream list (record { rising = h.coded.rising; spelled = h.coded.stream_is })).1
 
 segment_fits : (place n : ℕ) (image : List ℕ) (c : Content) → IsSegment (part place n image) c → length (tables_bytes c.documents (rows_of c.lists)) + data_bytes (rows_of c.lists) ≤ n

@@ -2,6 +2,7 @@ pub mod Contents
 pub mod Cuts
 pub mod Faults
 pub mod FirstUses
+pub mod KeptLaws
 pub mod LevelAnswers
 pub mod LevelDocuments
 pub mod LevelEnds

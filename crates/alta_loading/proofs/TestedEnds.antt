@@ -18,8 +18,8 @@ use Rattle.alta_loading.specs.Loads.{IsWhole, Load, Tells, list_at, load_at, loa
 use Rattle.alta_loading.specs.Met.{all_terms, is_among, level_terms, loads_met, loads_of_tests}
 use Rattle.alta_loading.specs.Terms.{loads_of}
 use Rattle.alta_loading.specs.Tested.{AreEndsWhole, HasWholeEnds}
-use Rattle.alta_loading.specs.declared.mark.Ends.{Ends}
-use Rattle.alta_loading.specs.declared.mark.Ends.TheVariants.{Tested, Untested}
+use Rattle.alta_loading.specs.declared.kept.Ends.{Ends}
+use Rattle.alta_loading.specs.declared.kept.Ends.TheVariants.{Tested, Untested}
 use Rattle.alta_loading.proofs.PrefixRows.{found_is}
 use Rattle.alta_loading.proofs.RowOf.{no_row, row_found}
 use Rattle.alta_loading.proofs.Runs.{all_back, all_front}

@@ -1,4 +1,5 @@
 pub mod Contents
+pub mod Kept
 pub mod Lists
 pub mod Loads
 pub mod Met

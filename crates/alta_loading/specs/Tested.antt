@@ -3,8 +3,8 @@ use Rattle.std.specs.Prelude.{◌≡◌, ℕ, List, All}
 use Rattle.alta_content.specs.Lists.{end_term}
 use Rattle.alta_content.specs.Rows.{ends_of}
 use Rattle.alta_loading.specs.Loads.{IsWhole, Load, list_at, load_in}
-use Rattle.alta_loading.specs.declared.mark.Ends.{Ends}
-use Rattle.alta_loading.specs.declared.mark.Ends.TheVariants.{Tested, Untested}
+use Rattle.alta_loading.specs.declared.kept.Ends.{Ends}
+use Rattle.alta_loading.specs.declared.kept.Ends.TheVariants.{Tested, Untested}
 use Rattle.alta_table.specs.Tables.{Tables}
 
 -- the list of the ends of a level's documents is whole on the image, where the level has one

@@ -6,11 +6,11 @@ ghost use Rattle.alta_loading.specs.Lists.{LiesWithin};
 ghost use Rattle.alta_loading.specs.Loads.{ReadsLists};
 ghost use Rattle.alta_loading.specs.Met.{keys_met, lists_met, loads_met, loads_of_tests};
 ghost use Rattle.alta_loading.specs.Snapshots.{all_rows};
-ghost use Rattle.alta_loading.specs.Tested.{AreEndsWhole};
+ghost use Rattle.alta_loading.specs.Kept.{AreKept};
 ghost use Rattle.alta_search.specs.Lists.{IsCut, test_in, test_keys, test_lists};
 ghost use Rattle.alta_search.specs.Newest.{HasAdded};
 
-use crate::mark::Ends;
+use crate::kept::KeptLists;
 use crate::meeting::terms_met;
 use crate::terms::load_terms;
 use alta_disk::{Disk, LoadFault};
@@ -29,12 +29,12 @@ pub fn load_test<D: Disk>(
     alloc: Global,
     disk: &mut D,
     levels: &[OpenLevel],
-    ends: Ends,
+    kept: &mut KeptLists,
     newest: &MemLevel,
     test: Test,
 ) -> Result<TestLists, LoadFault>
     requires within { D.tells → All (λ level. LiesWithin level (D.state disk.old).content) levels.now }
-    requires ends { D.tells → AreEndsWhole ends (D.state disk.old).content levels.now }
+    requires known { AreKept D.tells (D.state disk.old).content levels.now kept.old }
     requires newest { HasAdded newest.now }
     requires rise { RowsPrecede (all_rows levels.now newest.now.content) }
     ensures test { IfOk result (λ loaded. test_in loaded ≡ test) }
@@ -42,10 +42,11 @@ pub fn load_test<D: Disk>(
     ensures lists { D.tells → IfOk result (λ loaded. test_lists loaded ≡ lists_met levels.now newest.now.content (D.state disk.old).content test) }
     // Whatever the disk tells, the lists of a term rise one behind the other, and none is empty.
     ensures cut { IfOk result (λ loaded. IsCut (test_lists loaded)) }
+    ensures known { AreKept D.tells (D.state disk.old).content levels.now kept.new }
     ensures loads { ReadsLists D.tells (loads_met levels.now newest.now.content test) (D.state disk.old) (D.state disk.new) result }
 {
     let met = terms_met(alloc, levels, newest, &test)?;
-    match load_terms(alloc, disk, levels, ends, newest, met) {
+    match load_terms(alloc, disk, levels, kept, newest, met) {
         Ok(terms) => Ok(TestLists { test, terms }),
         Err(fault) => Err(fault),
     }
@@ -60,23 +61,24 @@ pub fn load_tests<D: Disk>(
     alloc: Global,
     disk: &mut D,
     levels: &[OpenLevel],
-    ends: Ends,
+    kept: &mut KeptLists,
     newest: &MemLevel,
     order: Vec<Test>,
 ) -> Result<Vec<TestLists>, LoadFault>
     requires within { D.tells → All (λ level. LiesWithin level (D.state disk.old).content) levels.now }
-    requires ends { D.tells → AreEndsWhole ends (D.state disk.old).content levels.now }
+    requires known { AreKept D.tells (D.state disk.old).content levels.now kept.old }
     requires newest { HasAdded newest.now }
     requires rise { RowsPrecede (all_rows levels.now newest.now.content) }
     ensures tests { IfOk result (λ tests. map test_in tests.items ≡ order.items) }
     ensures keys { IfOk result (λ tests. map test_keys tests.items ≡ map (keys_met levels.now newest.now.content) order.items) }
     ensures lists { D.tells → IfOk result (λ tests. map test_lists tests.items ≡ map (lists_met levels.now newest.now.content (D.state disk.old).content) order.items) }
     ensures cut { IfOk result (λ tests. All IsCut (map test_lists tests.items)) }
+    ensures known { AreKept D.tells (D.state disk.old).content levels.now kept.new }
     ensures loads { ReadsLists D.tells (loads_of_tests levels.now newest.now.content order.items) (D.state disk.old) (D.state disk.new) result }
 {
     let mut tests = Vec::with_capacity(alloc, order.len())?;
     for test in order {
-        match load_test(alloc, disk, levels, ends, newest, test) {
+        match load_test(alloc, disk, levels, kept, newest, test) {
             Ok(lists) => tests.push(lists)?,
             Err(fault) => return Err(fault),
         }

@@ -14,7 +14,7 @@ ghost use Rattle.alta_loading.specs.Lists.{LiesWithin};
 ghost use Rattle.alta_loading.specs.Loads.{ReadsLists};
 ghost use Rattle.alta_loading.specs.Met.{each_once, loads_of_tests};
 ghost use Rattle.alta_loading.specs.Snapshots.{all_rows, loaded_view};
-ghost use Rattle.alta_loading.specs.Tested.{AreEndsWhole};
+ghost use Rattle.alta_loading.specs.Kept.{AreKept};
 ghost use Rattle.alta_memlevel.specs.Documents.{HasDocuments};
 ghost use Rattle.alta_machine.specs.declared.document.Document.{Document};
 ghost use Rattle.alta_machine.specs.Deciding.{answers};
@@ -26,12 +26,12 @@ ghost use Rattle.alta_search.specs.Order.{used};
 ghost use Rattle.alta_search.specs.Shown.{ShowsDocuments};
 ghost use Rattle.alta_search.specs.Tops.{AreToRank};
 
+use crate::kept::{Ends, KeptLists};
 use crate::laws::{
     levels_and_newest_documents_answer, levels_and_newest_documents_are_ranked,
     levels_and_newest_documents_are_shown,
 };
 use crate::loading::load_tests;
-use crate::mark::Ends;
 use alta_codec::Loc;
 use alta_content::AllRows;
 use alta_disk::{Disk, LoadFault};
@@ -44,8 +44,8 @@ use std::alloc::Global;
 
 /// Loads the lists of the tests of an order, of each test those of the terms that meet it, from the levels, the oldest first, and
 /// from the newest documents; with the rows of all documents, and a copy of the deleted ends. Each test is loaded once, however many
-/// uses it has. Where `ends` says that the lists of all ends of these levels were tested, they are not read; and it says so afterwards
-/// where the first test is theirs and all was loaded.
+/// uses it has. What `kept` knows of the lists of these levels is not read. It knows afterwards the longer lists that were read, as far as
+/// it has room, and that the lists of all ends were tested, where the first test is theirs and all was loaded.
 ///
 /// # Errors
 ///
@@ -56,13 +56,13 @@ pub fn load_ordered<D: Disk>(
     disk: &mut D,
     order: Loading,
     levels: &[OpenLevel],
-    ends: &mut Ends,
+    kept: &mut KeptLists,
     newest: &MemLevel,
     rows: AllRows,
     gone: &[Loc],
 ) -> Result<Snapshot, LoadFault>
     requires within { D.tells → All (λ level. LiesWithin level (D.state disk.old).content) levels.now }
-    requires ends { D.tells → AreEndsWhole ends.old (D.state disk.old).content levels.now }
+    requires known { AreKept D.tells (D.state disk.old).content levels.now kept.old }
     requires newest { HasAdded newest.now }
     requires rise { RowsPrecede (all_rows levels.now newest.now.content) }
     requires rows { rows ≡ all_rows levels.now newest.now.content }
@@ -84,19 +84,19 @@ pub fn load_ordered<D: Disk>(
     ensures shown { D.tells → IfOk result (λ snapshot. (contents : List Level) → (behind : List Document) → levels.now ≡ map tables_by contents
         → All (λ level. IsSegment (bytes_at level.extent (D.state disk.old).content) level.content) contents → HasDocuments gone.now behind newest.now
         → ShowsDocuments snapshot (flat_map (documents_of gone.now) contents ++ behind)) }
-    ensures ends { D.tells → AreEndsWhole ends.new (D.state disk.old).content levels.now }
-    ensures tested { (more : List Test) → used order ≡ document_end ∷ more → OnOk result (ends.new ≡ Ends.Tested) }
+    ensures known { AreKept D.tells (D.state disk.old).content levels.now kept.new }
+    ensures tested { (more : List Test) → used order ≡ document_end ∷ more → OnOk result (kept.new.ends ≡ Ends.Tested) }
     ensures loads { ReadsLists D.tells (loads_of_tests levels.now newest.now.content (each_once (used order))) (D.state disk.old) (D.state disk.new) result }
 {
     levels_and_newest_documents_answer();
     levels_and_newest_documents_are_ranked();
     levels_and_newest_documents_are_shown();
     let (tests, uses) = order.into_parts();
-    let mark = marked(*ends, tests.as_slice());
-    match load_tests(alloc, disk, levels, *ends, newest, tests.into_vec()) {
+    let mark = marked(kept.ends, tests.as_slice());
+    match load_tests(alloc, disk, levels, kept, newest, tests.into_vec()) {
         Ok(tests) => {
             let gone = Vec::from_slice(alloc, gone)?;
-            *ends = mark;
+            kept.ends = mark;
             Ok(Snapshot::new(tests, uses, rows, gone))
         }
         Err(fault) => Err(fault),

@@ -2,6 +2,7 @@
 ghost use Rattle.std.specs.Prelude.{◌≡◌, ◌∷◌, ◌++◌, ◌^◌, ℕ, List, [], map, All, Err, IfOk, OnOk, Some, MatchOption, ◌<◌, length, slice_get, slice_index_or, IsTrue};
 ghost use Rattle.alta_content.specs.Rows.{ends_of};
 ghost use Rattle.alta_disk.specs.Disk.{DiskState};
+ghost use Rattle.alta_loading.specs.Kept.{AreKept, AreTestedIn, KeepsAlso, KeepsTested};
 ghost use Rattle.alta_loading.specs.Lists.{KeepsRow, LiesWithin, stream_size};
 ghost use Rattle.alta_loading.specs.Loads.{KeepRows, Load, ReadsLists, list_at, load_at, load_in, loads_from, number_of, row_from};
 ghost use Rattle.alta_loading.specs.Met.{level_terms};
@@ -11,8 +12,8 @@ ghost use Rattle.alta_loading.specs.Tested.{AreEndsWhole, IsAllEnds};
 ghost use Rattle.alta_search.specs.Lists.{key_of, level_in, level_list, stored_list, term_lists};
 ghost use Rattle.alta_table.specs.Tables.{Tables};
 
+use crate::kept::{Ends, KeptList, KeptLists, is_long};
 use crate::list::load_list;
-use crate::mark::Ends;
 use crate::near::Near;
 use alta_codec::{Bytes, Loc};
 use alta_disk::{Disk, LoadFault};
@@ -22,11 +23,12 @@ use alta_search::{LevelList, Stored, TermLists};
 use alta_table::OpenLevel;
 use alta_words::Posting;
 use std::alloc::{AllocError, Global};
+use std::rc::Rc;
 
 /// Loads the lists of a term: those of the levels, that of the oldest level first, and behind them a copy of that of the newest
-/// documents. A list of a level is kept as it is coded, but that of all documents' ends, once it was tested, as the level's rows
-/// have it; where `ends` says that it was tested before, it is not read. The oldest level is numbered 0, and the newest documents are
-/// numbered behind all levels. A level without the term has no list. In each level the term is looked up behind the term before, by `nears`,
+/// documents. A list of a level is held as it is coded, but that of all documents' ends, once it was tested, as the level's rows
+/// have it. What `kept` knows is not read, and a list that was read and is long is kept there. The oldest level is numbered 0, and the
+/// newest documents are numbered behind all levels. A level without the term has no list. In each level the term is looked up behind the term before, by `nears`,
 /// which has all levels, and else by halves, where that is empty.
 ///
 /// # Errors
@@ -37,22 +39,23 @@ pub(crate) fn load_term<D: Disk>(
     alloc: Global,
     disk: &mut D,
     levels: &[OpenLevel],
-    ends: Ends,
+    kept: &mut KeptLists,
     newest: &MemLevel,
     term: Bytes,
     nears: &mut [Near<'_>],
 ) -> Result<TermLists, LoadFault>
     requires within { D.tells → All (λ level. LiesWithin level (D.state disk.old).content) levels.now }
-    requires ends { D.tells → AreEndsWhole ends (D.state disk.old).content levels.now }
+    requires known { AreKept D.tells (D.state disk.old).content levels.now kept.old }
     requires sound { IsTrue newest.now.sound }
     requires nears { AreNear levels.now nears.old }
     ensures nears { nears.new ≡ nears.old }
     ensures key { IfOk result (λ lists. key_of lists ≡ term_key levels.now newest.now.content term) }
     ensures lists { D.tells → IfOk result (λ lists. term_lists lists ≡ lists_of_term levels.now newest.now.content (D.state disk.old).content term) }
     ensures kept { IfOk result (λ lists. KeepTerm levels.now newest.now.content term (term_lists lists)) }
+    ensures known { AreKept D.tells (D.state disk.new).content levels.now kept.new }
     ensures loads { ReadsLists D.tells (loads_from 0 levels.now term) (D.state disk.old) (D.state disk.new) result }
 {
-    match load_coded(alloc, disk, levels, ends, term.as_slice(), nears) {
+    match load_coded(alloc, disk, levels, kept, term.as_slice(), nears) {
         Ok(coded) => {
             let list = newest.get(term.as_slice());
             let levels = with_newest(alloc, coded, levels.len() as u64, list)?;
@@ -89,12 +92,12 @@ fn load_coded<D: Disk>(
     alloc: Global,
     disk: &mut D,
     levels: &[OpenLevel],
-    ends: Ends,
+    kept: &mut KeptLists,
     term: &[u8],
     nears: &mut [Near<'_>],
 ) -> Result<Vec<LevelList>, LoadFault>
     requires within { D.tells → All (λ level. LiesWithin level (D.state disk.old).content) levels.now }
-    requires ends { D.tells → AreEndsWhole ends (D.state disk.old).content levels.now }
+    requires known { AreKept D.tells (D.state disk.old).content levels.now kept.old }
     requires nears { AreNear levels.now nears.old }
     ensures nears { nears.new ≡ nears.old }
     // One list for each level that has the term.
@@ -103,6 +106,7 @@ fn load_coded<D: Disk>(
     ensures lists { D.tells → IfOk result (λ lists. map level_list lists.items ≡ map (list_at (D.state disk.old).content) (loads_from 0 levels.now term.now)) }
     // Whatever the disk tells, they keep what their rows and documents say.
     ensures kept { IfOk result (λ lists. KeepRows (loads_from 0 levels.now term.now) (map level_list lists.items)) }
+    ensures known { AreKept D.tells (D.state disk.new).content levels.now kept.new }
     ensures loads { ReadsLists D.tells (loads_from 0 levels.now term.now) (D.state disk.old) (D.state disk.new) result }
 {
     let mut lists = Vec::new(alloc);
@@ -114,7 +118,7 @@ fn load_coded<D: Disk>(
             &mut lists,
             number as u64,
             level,
-            ends,
+            kept,
             term,
             nears,
         ) {
@@ -131,22 +135,24 @@ fn load_next<D: Disk>(
     lists: &mut Vec<LevelList>,
     number: u64,
     level: &OpenLevel,
-    ends: Ends,
+    kept: &mut KeptLists,
     term: &[u8],
     nears: &mut [Near<'_>],
 ) -> Result<(), LoadFault>
     requires within { D.tells → LiesWithin level.now (D.state disk.old).content }
-    requires ends { D.tells → AreEndsWhole ends (D.state disk.old).content (level.now ∷ []) }
+    requires ends { D.tells → AreEndsWhole kept.old.ends (D.state disk.old).content (level.now ∷ []) }
+    requires tested { AreTestedIn D.tells (D.state disk.old).content number level.now kept.old }
     requires nears { IsNearAt level.now number nears.old }
     ensures nears { nears.new ≡ nears.old }
     ensures numbers { OnOk result (map level_in lists.new.items ≡ map level_in lists.old.items ++ map number_of (load_in number level.now term.now)) }
     ensures lists { D.tells → OnOk result (map level_list lists.new.items ≡ map level_list lists.old.items ++ map (list_at (D.state disk.old).content) (load_in number level.now term.now)) }
     ensures kept { OnOk result ((before : List Load) → KeepRows before (map level_list lists.old.items) → KeepRows (before ++ load_in number level.now term.now) (map level_list lists.new.items)) }
+    ensures keeps { KeepsTested D.tells (D.state disk.old).content number level.now kept.old kept.new }
     ensures loads { ReadsLists D.tells (load_in number level.now term.now) (D.state disk.old) (D.state disk.new) result }
 {
     match row_of(level, term, number, nears) {
         None => Ok(()),
-        Some(row) => match load_row(alloc, disk, number, level, ends, row, term) {
+        Some(row) => match load_row(alloc, disk, number, level, kept, row, term) {
             Ok(list) => {
                 lists.push(list)?;
                 Ok(())
@@ -190,27 +196,57 @@ fn load_row<D: Disk>(
     disk: &mut D,
     number: u64,
     level: &OpenLevel,
-    ends: Ends,
+    kept: &mut KeptLists,
     row: usize,
     term: &[u8],
 ) -> Result<LevelList, LoadFault>
     requires row { row < length level.now.terms }
     requires term { slice_get (level_terms level.now) row ≡ Some term.now }
     requires within { D.tells → LiesWithin level.now (D.state disk.old).content }
-    requires ends { D.tells → AreEndsWhole ends (D.state disk.old).content (level.now ∷ []) }
+    requires ends { D.tells → AreEndsWhole kept.old.ends (D.state disk.old).content (level.now ∷ []) }
+    requires tested { AreTestedIn D.tells (D.state disk.old).content number level.now kept.old }
     ensures number { IfOk result (λ list. level_in list ≡ number) }
     ensures list { D.tells → IfOk result (λ list. level_list list ≡ list_at (D.state disk.old).content (record { number = number; level = level.now; row = row })) }
     ensures kept { IfOk result (λ list. KeepsRow level.now row (level_list list)) }
+    ensures keeps { KeepsTested D.tells (D.state disk.old).content number level.now kept.old kept.new }
     ensures loads { ReadsLists D.tells (load_at number level.now (Some row)) (D.state disk.old) (D.state disk.new) result }
 {
-    if is_tested(ends, level, row, term) {
+    if is_tested(kept.ends, level, row, term) {
         let list = all_ends(number, level)?;
         return Ok(list);
     }
+    match kept.get(number, row) {
+        Some(posting) => Ok(LevelList {
+            level: number,
+            stored: Stored::Shared(posting.clone()?),
+        }),
+        None => read_row(alloc, disk, number, level, kept, row, term),
+    }
+}
+
+// The same, of a list that is read. A long one is kept.
+fn read_row<D: Disk>(
+    alloc: Global,
+    disk: &mut D,
+    number: u64,
+    level: &OpenLevel,
+    kept: &mut KeptLists,
+    row: usize,
+    term: &[u8],
+) -> Result<LevelList, LoadFault>
+    requires row { row < length level.now.terms }
+    requires term { slice_get (level_terms level.now) row ≡ Some term.now }
+    requires within { D.tells → LiesWithin level.now (D.state disk.old).content }
+    ensures number { IfOk result (λ list. level_in list ≡ number) }
+    ensures list { D.tells → IfOk result (λ list. level_list list ≡ list_at (D.state disk.old).content (record { number = number; level = level.now; row = row })) }
+    ensures kept { IfOk result (λ list. KeepsRow level.now row (level_list list)) }
+    ensures keeps { KeepsTested D.tells (D.state disk.old).content number level.now kept.old kept.new }
+    ensures loads { ReadsLists D.tells (load_at number level.now (Some row)) (D.state disk.old) (D.state disk.new) result }
+{
     match load_list(alloc, disk, level, row) {
         Ok(posting) => Ok(LevelList {
             level: number,
-            stored: held(level, row, term, posting)?,
+            stored: held(alloc, kept, number, level, row, term, posting)?,
         }),
         Err(fault) => Err(fault),
     }
@@ -259,16 +295,36 @@ fn all_ends(number: u64, level: &OpenLevel) -> Result<LevelList, AllocError>
     })
 }
 
-// The list of a row as it is kept: where it is that of the ends of documents, as the level's rows have them in a plain form, and else as
-// it is coded.
-fn held(level: &OpenLevel, row: usize, term: &[u8], posting: Posting) -> Result<Stored, AllocError>
+// The list of a row as it is held: where it is that of the ends of documents, as the level's rows have them in a plain form, and else as
+// it is coded. A long one is kept.
+fn held(
+    alloc: Global,
+    kept: &mut KeptLists,
+    number: u64,
+    level: &OpenLevel,
+    row: usize,
+    term: &[u8],
+    posting: Posting,
+) -> Result<Stored, AllocError>
     requires term { slice_get (level_terms level.now) row ≡ Some term.now }
     requires keeps { KeepsRow level.now row posting }
-    ensures { IfOk result (λ stored. stored_list stored ≡ posting) }
+    ensures stored { IfOk result (λ stored. stored_list stored ≡ posting) }
+    ensures kept { KeepsAlso number row posting kept.old kept.new }
 {
     if is_end_term(term) {
-        Ok(Stored::Ends(level.rows().clone()?))
-    } else {
-        Ok(Stored::Coded(posting))
+        return Ok(Stored::Ends(level.rows().clone()?));
     }
+    if !is_long(&posting) {
+        return Ok(Stored::Coded(posting));
+    }
+    let (stream, summary) = level.stream_place(row);
+    let bytes = stream.bytes.saturating_add(summary.bytes);
+    let posting = Rc::new(alloc, posting)?;
+    let list = KeptList {
+        number,
+        row,
+        posting: posting.clone()?,
+    };
+    kept.keep(list, bytes);
+    Ok(Stored::Shared(posting))
 }

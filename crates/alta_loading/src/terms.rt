@@ -7,10 +7,10 @@ ghost use Rattle.alta_loading.specs.Lists.{LiesWithin};
 ghost use Rattle.alta_loading.specs.Loads.{ReadsLists};
 ghost use Rattle.alta_loading.specs.Near.{AreNear};
 ghost use Rattle.alta_loading.specs.Terms.{KeepTerms, lists_of_term, loads_of, term_key};
-ghost use Rattle.alta_loading.specs.Tested.{AreEndsWhole};
+ghost use Rattle.alta_loading.specs.Kept.{AreKept};
 ghost use Rattle.alta_search.specs.Lists.{key_of, term_lists};
 
-use crate::mark::Ends;
+use crate::kept::KeptLists;
 use crate::near::Near;
 use crate::term::load_term;
 use alta_codec::Bytes;
@@ -30,22 +30,23 @@ pub fn load_terms<D: Disk>(
     alloc: Global,
     disk: &mut D,
     levels: &[OpenLevel],
-    ends: Ends,
+    kept: &mut KeptLists,
     newest: &MemLevel,
     terms: Vec<Bytes>,
 ) -> Result<Vec<TermLists>, LoadFault>
     requires within { D.tells → All (λ level. LiesWithin level (D.state disk.old).content) levels.now }
-    requires ends { D.tells → AreEndsWhole ends (D.state disk.old).content levels.now }
+    requires known { AreKept D.tells (D.state disk.old).content levels.now kept.old }
     requires sound { IsTrue newest.now.sound }
     ensures keys { IfOk result (λ loaded. map key_of loaded.items ≡ map (term_key levels.now newest.now.content) terms.items) }
     ensures lists { D.tells → IfOk result (λ loaded. map term_lists loaded.items ≡ map (lists_of_term levels.now newest.now.content (D.state disk.old).content) terms.items) }
     ensures kept { IfOk result (λ loaded. KeepTerms levels.now newest.now.content terms.items (map term_lists loaded.items)) }
+    ensures known { AreKept D.tells (D.state disk.new).content levels.now kept.new }
     ensures loads { ReadsLists D.tells (loads_of levels.now terms.items) (D.state disk.old) (D.state disk.new) result }
 {
     let mut loaded = Vec::with_capacity(alloc, terms.len())?;
     let mut nears = nears_of(alloc, levels, terms.len())?;
     for term in terms {
-        match load_term(alloc, disk, levels, ends, newest, term, &mut nears) {
+        match load_term(alloc, disk, levels, kept, newest, term, &mut nears) {
             Ok(lists) => loaded.push(lists)?,
             Err(fault) => return Err(fault),
         }

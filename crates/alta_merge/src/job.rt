@@ -7,7 +7,6 @@ use crate::fronts::{merge_next, next_of};
 use alta_codec::Loc;
 use alta_content::{Content, DocRow, DocRows, Span, TermLists, keep_rows, spans_of};
 use std::alloc::{AllocError, Global};
-use std::default::MadeWith;
 use std::marker::Model;
 
 /// A join of contents that stand one behind the other, without the documents that were dead when it began. Contracts see what it
@@ -61,6 +60,15 @@ fn take_apart(alloc: Global, contents: Vec<Content>) -> Result<Parts, AllocError
     Ok(Parts { rows, rests })
 }
 
+// The room that a join of lists takes at most.
+fn room_of(rests: &[TermLists]) -> usize {
+    let mut room: usize = 0;
+    for rest in rests {
+        room = room.saturating_add(rest.room());
+    }
+    room
+}
+
 impl Job {
     /// Begins the join of two contents, the first before the second, without the documents whose end is deleted. The deleted
     /// ends may stand in any order, and may be ends of no document. It takes a few allocations, whatever the number of terms.
@@ -87,7 +95,7 @@ impl Job {
         keep_rows(&mut rows, &spans);
         Ok(Job {
             rows: DocRows::from_vec(rows),
-            made: TermLists::made_with(alloc),
+            made: TermLists::with_room(alloc, room_of(&parts.rests))?,
             rests: parts.rests,
             spans,
             room: Vec::new(alloc),

@@ -1,3 +1,4 @@
+pub mod AnyUse
 pub mod Counting
 pub mod Documents
 pub mod FewUses

@@ -1,3 +1,4 @@
+pub mod AnyUse
 pub mod Counted
 pub mod Kept
 pub mod Locations

@@ -1,10 +1,11 @@
 // What the definitions promise by themselves. Each function is a law, and has nothing to run.
-ghost use Rattle.std.specs.Prelude.{◌≡◌, ℕ, ◌+◌, ◌-◌, ◌<◌, ◌≤◌, List, length};
+ghost use Rattle.std.specs.Prelude.{◌≡◌, ◌↔◌, ℕ, ◌+◌, ◌-◌, ◌<◌, ◌≤◌, true, List, length};
 ghost use Rattle.std.specs.List.Sorted.{IsPermutation, IsSorted};
-ghost use Rattle.alta_machine.specs.Matches.{IsWellFormed};
+ghost use Rattle.alta_machine.specs.Matches.{IsWellFormed, Matches};
 ghost use Rattle.alta_machine.specs.Patterns.{title_end};
 ghost use Rattle.alta_machine.specs.Shape.{Shape};
 ghost use Rattle.alta_machine.specs.Scores.{score_of};
+ghost use Rattle.alta_rank.specs.AnyUse.{asks_any_use};
 ghost use Rattle.alta_rank.specs.Locations.{range_score, IsListIn, AreListsIn};
 ghost use Rattle.alta_machine.specs.Ranked.{by_rank, ranked};
 ghost use Rattle.alta_machine.specs.Uses.{uses_of};
@@ -17,6 +18,11 @@ pub fn a_score_is_of_the_cells()
     ensures { (first : ℕ) (cells : List (List (List ℕ))) (uses : List Use) (lists : List (List ℕ)) (titles : List ℕ)
         → 0 < length cells → AreListsIn first cells uses lists → IsListIn first cells title_end titles
         → range_score uses lists titles first (first + length cells - 1) ≡ score_of uses cells }
+{}
+
+/// Where a query asks for one of its uses, exactly the documents that match it have a score.
+pub fn a_score_is_of_an_answer()
+    ensures { (q : Shape) (cells : List (List (List ℕ))) → asks_any_use q ≡ true → Matches cells q ↔ (0 < score_of (uses_of q) cells) }
 {}
 
 /// The answers in their order are the same answers, and none comes before the one in front of it.

@@ -6,9 +6,10 @@ ghost use Rattle.std.specs.Prelude.{◌≡◌, ◌↔◌, ◌+◌, ◌-◌, ◌*
 ghost use Rattle.alta_codec.specs.Rising.{first_from};
 ghost use Rattle.alta_codec.specs.declared.location.TheConstants.{TOP};
 ghost use Rattle.alta_rank.specs.Locations.{range_score};
+ghost use Rattle.alta_rank.specs.Reads.{LooksOn};
 ghost use Rattle.alta_rank.specs.Scoring.{left_of};
 
-use crate::scoring::{last_to, score_each};
+use crate::scoring::{last_to, least_from, score_each};
 use alta_codec::{Loc, Steps};
 use alta_machine::Uses;
 use alta_reader::BackReader;
@@ -101,5 +102,15 @@ impl<R: BackReader> Scorer<R> {
         );
         self.asked = end;
         score
+    }
+    /// The least location behind the last end asked that the list of a use has, `TOP` where none has one. A reader moves once at most,
+    /// to its first location there.
+    pub fn next<L: Ledger>(&mut self, steps: &mut Steps<L>) -> Loc
+        requires below { self.old.asked < TOP }
+        ensures above { self.old.asked < result }
+        ensures least { All (λ list. result ≤ first_from list (self.old.asked + 1)) (map R.list self.old.readers) }
+        ensures on { LooksOn R.list R.left self.old self.new steps.old steps.new }
+    {
+        least_from(&mut self.readers, self.asked + 1, steps)
     }
 }

@@ -4,9 +4,9 @@ ghost use Rattle.alta_codec.specs.Rising.{first_from, pred_of};
 ghost use Rattle.alta_codec.specs.declared.location.TheConstants.{TOP};
 ghost use Rattle.alta_machine.specs.Scores as cells;
 ghost use Rattle.alta_rank.specs.Counted.{AreBehind, counted, counted_each};
-ghost use Rattle.alta_rank.specs.Reads.{ReadsOn};
+ghost use Rattle.alta_rank.specs.Reads.{ReadOn, ReadsOn};
 
-use alta_codec::{Loc, Steps};
+use alta_codec::{Loc, Steps, TOP};
 use alta_machine::Use;
 use alta_reader::BackReader;
 use std::sync::ledger::Ledger;
@@ -131,4 +131,55 @@ pub(crate) fn score_each<R: BackReader, L: Ledger>(
         score += score_at(readers, i, uses[i].title, last, first, end, steps);
     }
     score
+}
+
+/// Moves a reader to its first location at or above `first`, if it stands below, and answers where it stands.
+fn place_from<R: BackReader, L: Ledger>(reader: &mut R, first: Loc, steps: &mut Steps<L>) -> Loc
+    requires sound { R.sound reader.old }
+    requires behind { pred_of (R.list reader.old) (R.location reader.old) < first }
+    requires top { first ≤ TOP }
+    ensures reads { ReadsOn R.sound R.list R.left (λ r. pred_of (R.list r) (R.location r) < first) reader.old reader.new steps.old steps.new }
+    ensures place { result ≡ first_from (R.list reader.old) first }
+{
+    reach(reader, first, steps);
+    reader.loc()
+}
+
+/// The same of reader `i`.
+fn place_at<R: BackReader, L: Ledger>(
+    readers: &mut [R],
+    i: usize,
+    first: Loc,
+    steps: &mut Steps<L>,
+) -> Loc
+    requires sound { All R.sound readers.old }
+    requires within { i < length readers.old }
+    requires behind { All (λ r. pred_of (R.list r) (R.location r) < first) readers.old }
+    requires top { first ≤ TOP }
+    ensures on { ReadOn R.sound R.list R.left readers.old readers.new steps.old steps.new }
+    ensures behind { All (λ r. pred_of (R.list r) (R.location r) < first) readers.new }
+    ensures place { result ≡ first_from (slice_index_or (map R.list readers.old) i []) first }
+{
+    place_from(&mut readers[i], first, steps)
+}
+
+/// The least location at or above `first` that a list has, `TOP` where none has one. Readers that stand below go on to theirs.
+pub(crate) fn least_from<R: BackReader, L: Ledger>(
+    readers: &mut [R],
+    first: Loc,
+    steps: &mut Steps<L>,
+) -> Loc
+    requires sound { All R.sound readers.old }
+    requires behind { All (λ r. pred_of (R.list r) (R.location r) < first) readers.old }
+    requires top { first ≤ TOP }
+    ensures on { ReadOn R.sound R.list R.left readers.old readers.new steps.old steps.new }
+    ensures behind { All (λ r. pred_of (R.list r) (R.location r) < first) readers.new }
+    ensures above { first ≤ result }
+    ensures least { All (λ list. result ≤ first_from list first) (map R.list readers.old) }
+{
+    let mut least = TOP;
+    'readers: for i in 0..readers.len() {
+        least = least.min(place_at(readers, i, first, steps));
+    }
+    least
 }

@@ -14,7 +14,7 @@ use Rattle.alta_disk.specs.Answers.{IfDamaged}
 use Rattle.alta_loading.specs.Loads.{Load, Tells, IsFirstFault, IsWhole, load_sizes}
 use Rattle.alta_disk.specs.declared.fault.LoadFault.{LoadFault}
 use Rattle.alta_disk.specs.declared.fault.LoadFault.TheVariants.{Disk as LoadDisk, Memory as LoadMemory, Damaged as LoadDamaged}
-use Rattle.alta_loading.specs.declared.mark.Ends.{Ends}
+use Rattle.alta_loading.specs.declared.kept.KeptLists.{KeptLists}
 use Rattle.alta_loading.proofs.Runs.{reads_none, reads_most}
 use Rattle.alta_meaning.specs.Standing.{StandsFor}
 use Rattle.alta_machine.specs.declared.document.State.{State}
@@ -27,7 +27,7 @@ use Rattle.alta_query.specs.declared.fault.QueryFault.{QueryFault}
 use Rattle.alta_machine.specs.declared.test.Test.{Test}
 use Rattle.alta_search.specs.declared.cursors.OpenCursor.{OpenCursor}
 use Rattle.alta_machine.specs.declared.cursors.TheConstants.{CURSORS}
-use Rattle.alta_replies.specs.Loading.{Loads, LoadsMarked, MarkHolds, Queries, loads_of_text, newest_in, open_loads, query_loads, ranked_loads_of_text, ranked_query_loads, search_loads, text_loads, top_loads, top_text_loads}
+use Rattle.alta_replies.specs.Loading.{Loads, LoadsKept, KeptHolds, Queries, loads_of_text, newest_in, open_loads, query_loads, ranked_loads_of_text, ranked_query_loads, search_loads, text_loads, top_loads, top_text_loads}
 use Rattle.alta_store.specs.Answers.{of_load, AnswersFault, IsOutside}
 use Rattle.alta_machine.specs.Machine.{IsRefusal}
 use Rattle.alta_machine.specs.Searching.{IsNoQuery}
@@ -186,41 +186,41 @@ agrees_read tells bytes d e store lawful agrees reads = record {
 -- ---- calls that answer a text
 
 -- the lists of a query were loaded
-pub loads_same : {X : Type 0} (tells : Type 0) (store : Store) (ends_now : Ends) (before after : DiskState) (loads : List Test → List Load) (result : Result X StoreFault) (tests other : List Test) → tests ≡ other
-    → LoadsMarked tells store ends_now (loads tests) before after result → LoadsMarked tells store ends_now (loads other) before after result
-loads_same tells store ends_now before after loads result tests other same loaded = subst (λ (t : List Test). LoadsMarked tells store ends_now (loads t) before after result) same loaded
+pub loads_same : {X : Type 0} (tells : Type 0) (store : Store) (kept_now : KeptLists) (before after : DiskState) (loads : List Test → List Load) (result : Result X StoreFault) (tests other : List Test) → tests ≡ other
+    → LoadsKept tells store kept_now (loads tests) before after result → LoadsKept tells store kept_now (loads other) before after result
+loads_same tells store kept_now before after loads result tests other same loaded = subst (λ (t : List Test). LoadsKept tells store kept_now (loads t) before after result) same loaded
 
-pub queries_loaded : {D X : Type 0} (tells : Type 0) (state : D → DiskState) (disk disk_now : D) (store : Store) (ends ends_now : Ends) (loads : List Load) (x : X) (result : Result (List ℕ) StoreFault)
-    → LoadsMarked {X = X} tells store ends_now loads (state disk) (state disk_now) (Ok x) → IfErr result (λ e. e ≡ Memory) → IfOk result (λ reply. IsRefusal reply → ⊥) → Queries tells state disk disk_now store ends ends_now loads ⊥ result
-queries_loaded tells state disk disk_now store ends ends_now loads x result one memory other = record {
+pub queries_loaded : {D X : Type 0} (tells : Type 0) (state : D → DiskState) (disk disk_now : D) (store : Store) (kept kept_now : KeptLists) (loads : List Load) (x : X) (result : Result (List ℕ) StoreFault)
+    → LoadsKept {X = X} tells store kept_now loads (state disk) (state disk_now) (Ok x) → IfErr result (λ e. e ≡ Memory) → IfOk result (λ reply. IsRefusal reply → ⊥) → Queries tells state disk disk_now store kept kept_now loads ⊥ result
+queries_loaded tells state disk disk_now store kept kept_now loads x result one memory other = record {
   loading = record {
     loaded = loads_then tells loads (state disk) (state disk_now) x result one.loaded memory;
     undamaged = λ s tell stands. err_weaker result (λ e. e ≡ Memory) IsOutside (λ e is. inl is) memory;
-    mark = one.mark;
+    known = one.known;
   };
-  refused = IfOk-weaker result (λ reply. IsRefusal reply → ⊥) (λ reply. IsRefusal reply → (disk_now ≡ disk) × (ends_now ≡ ends)) (λ reply no refusal. absurd (no refusal)) other;
+  refused = IfOk-weaker result (λ reply. IsRefusal reply → ⊥) (λ reply. IsRefusal reply → (disk_now ≡ disk) × (kept_now ≡ kept)) (λ reply no refusal. absurd (no refusal)) other;
   idles = λ none. absurd none;
 }
 
 -- they were not
-pub queries_failed : {D X : Type 0} (tells : Type 0) (state : D → DiskState) (disk disk_now : D) (store : Store) (ends ends_now : Ends) (loads : List Load) (f : StoreFault)
-    → LoadsMarked {X = X} tells store ends_now loads (state disk) (state disk_now) (Err f) → Queries tells state disk disk_now store ends ends_now loads ⊥ (Err f)
-queries_failed tells state disk disk_now store ends ends_now loads f one = record {
-  loading = record { loaded = loads_fault tells loads (state disk) (state disk_now) f one.loaded; undamaged = one.undamaged; mark = one.mark };
+pub queries_failed : {D X : Type 0} (tells : Type 0) (state : D → DiskState) (disk disk_now : D) (store : Store) (kept kept_now : KeptLists) (loads : List Load) (f : StoreFault)
+    → LoadsKept {X = X} tells store kept_now loads (state disk) (state disk_now) (Err f) → Queries tells state disk disk_now store kept kept_now loads ⊥ (Err f)
+queries_failed tells state disk disk_now store kept kept_now loads f one = record {
+  loading = record { loaded = loads_fault tells loads (state disk) (state disk_now) f one.loaded; undamaged = one.undamaged; known = one.known };
   refused = tt;
   idles = λ none. absurd none;
 }
 
 -- the lists are also written so
-marked_same : {X : Type 0} (tells : Type 0) (store : Store) (ends_now : Ends) (before after : DiskState) (loads now : List Load) (result : Result X StoreFault) → now ≡ loads
-    → LoadsMarked tells store ends_now loads before after result → LoadsMarked tells store ends_now now before after result
-marked_same tells store ends_now before after loads now result is one = subst (λ (l : List Load). LoadsMarked tells store ends_now l before after result) (sym is) one
+known_same : {X : Type 0} (tells : Type 0) (store : Store) (kept_now : KeptLists) (before after : DiskState) (loads now : List Load) (result : Result X StoreFault) → now ≡ loads
+    → LoadsKept tells store kept_now loads before after result → LoadsKept tells store kept_now now before after result
+known_same tells store kept_now before after loads now result is one = subst (λ (l : List Load). LoadsKept tells store kept_now l before after result) (sym is) one
 
 -- the text is this query
-pub queries_found : {D : Type 0} (tells : Type 0) (state : D → DiskState) (disk disk_now : D) (store : Store) (ends ends_now : Ends) (loads now : List Load) (idle : Type 0) (result : Result (List ℕ) StoreFault) → now ≡ loads → (idle → ⊥)
-    → Queries tells state disk disk_now store ends ends_now loads ⊥ result → Queries tells state disk disk_now store ends ends_now now idle result
-queries_found tells state disk disk_now store ends ends_now loads now idle result is busy one = record {
-  loading = marked_same tells store ends_now (state disk) (state disk_now) loads now result is one.loading;
+pub queries_found : {D : Type 0} (tells : Type 0) (state : D → DiskState) (disk disk_now : D) (store : Store) (kept kept_now : KeptLists) (loads now : List Load) (idle : Type 0) (result : Result (List ℕ) StoreFault) → now ≡ loads → (idle → ⊥)
+    → Queries tells state disk disk_now store kept kept_now loads ⊥ result → Queries tells state disk disk_now store kept kept_now now idle result
+queries_found tells state disk disk_now store kept kept_now loads now idle result is busy one = record {
+  loading = known_same tells store kept_now (state disk) (state disk_now) loads now result is one.loading;
   refused = one.refused;
   idles = λ none. absurd (busy none);
 }
@@ -233,15 +233,15 @@ idle_loads : {X : Type 0} (tells : Type 0) (d : DiskState) (loads : List Load) (
 idle_loads {X} tells d loads (Ok x) memory none = subst (λ (l : List Load). Loads {X = X} tells l d d (Ok x)) (sym none) (loads_idle tells d (Ok x) tt)
 idle_loads {X} tells d loads (Err e) memory none = subst (λ (f : StoreFault). Loads {X = X} tells loads d d (Err f)) (sym memory) (loads_memory tells loads d)
 
-pub queries_idle : {D : Type 0} (tells : Type 0) (state : D → DiskState) (disk : D) (store : Store) (ends : Ends) (loads : List Load) (idle : Type 0) (result : Result (List ℕ) StoreFault) → MarkHolds tells (state disk) store ends
-    → IfErr result (λ e. e ≡ Memory) → IfOk result (λ x. loads ≡ []) → Queries tells state disk disk store ends ends loads idle result
-queries_idle tells state disk store ends loads idle result mark memory none = record {
+pub queries_idle : {D : Type 0} (tells : Type 0) (state : D → DiskState) (disk : D) (store : Store) (kept : KeptLists) (loads : List Load) (idle : Type 0) (result : Result (List ℕ) StoreFault) → KeptHolds tells (state disk) store kept
+    → IfErr result (λ e. e ≡ Memory) → IfOk result (λ x. loads ≡ []) → Queries tells state disk disk store kept kept loads idle result
+queries_idle tells state disk store kept loads idle result known memory none = record {
   loading = record {
     loaded = idle_loads tells (state disk) loads result memory none;
     undamaged = λ s tell stands. err_weaker result (λ e. e ≡ Memory) IsOutside (λ e is. inl is) memory;
-    mark = mark;
+    known = known;
   };
-  refused = IfOk-weaker result (λ x. loads ≡ []) (λ reply. IsRefusal reply → (disk ≡ disk) × (ends ≡ ends)) (λ x is refusal. (refl, refl)) none;
+  refused = IfOk-weaker result (λ x. loads ≡ []) (λ reply. IsRefusal reply → (disk ≡ disk) × (kept ≡ kept)) (λ x is refusal. (refl, refl)) none;
   idles = λ here. (refl, memory);
 }
 
@@ -271,11 +271,11 @@ pub open_none_loads : (store : Store) (cursors : List OpenCursor) (text : List �
 open_none_loads store cursors text result none =
     IfOk-weaker result (λ x. text_loads store text ≡ []) (λ x. open_loads store cursors text ≡ []) (λ x is. none_loads (nat_le CURSORS (length cursors)) (text_loads store text) is) none
 
-pub queries_opened : {D : Type 0} (tells : Type 0) (state : D → DiskState) (disk disk_now : D) (store : Store) (ends ends_now : Ends) (cursors : List OpenCursor) (text : List ℕ) (q : Shape) (result : Result (List ℕ) StoreFault) → query_of text ≡ Ok q
-    → Queries tells state disk disk_now store ends ends_now (cond (nat_le CURSORS (length cursors)) [] (search_loads store (plan_of q))) (CURSORS ≤ length cursors) result
-    → Queries tells state disk disk_now store ends ends_now (open_loads store cursors text) (IsNoQuery text ⊎ (CURSORS ≤ length cursors)) result
-queries_opened tells state disk disk_now store ends ends_now cursors text q result is one = record {
-  loading = marked_same tells store ends_now (state disk) (state disk_now) _ (open_loads store cursors text) result (either_loads (nat_le CURSORS (length cursors)) (text_loads store text) (search_loads store (plan_of q)) (text_found store text q is)) one.loading;
+pub queries_opened : {D : Type 0} (tells : Type 0) (state : D → DiskState) (disk disk_now : D) (store : Store) (kept kept_now : KeptLists) (cursors : List OpenCursor) (text : List ℕ) (q : Shape) (result : Result (List ℕ) StoreFault) → query_of text ≡ Ok q
+    → Queries tells state disk disk_now store kept kept_now (cond (nat_le CURSORS (length cursors)) [] (search_loads store (plan_of q))) (CURSORS ≤ length cursors) result
+    → Queries tells state disk disk_now store kept kept_now (open_loads store cursors text) (IsNoQuery text ⊎ (CURSORS ≤ length cursors)) result
+queries_opened tells state disk disk_now store kept kept_now cursors text q result is one = record {
+  loading = known_same tells store kept_now (state disk) (state disk_now) _ (open_loads store cursors text) result (either_loads (nat_le CURSORS (length cursors)) (text_loads store text) (search_loads store (plan_of q)) (text_found store text q is)) one.loading;
   refused = one.refused;
   idles = λ idle. ⊎_elim (λ none. absurd (is_query text q is none)) one.idles idle;
 }

@@ -9,10 +9,10 @@ use Rattle.alta_disk.specs.Calls.{Reads}
 use Rattle.alta_disk.specs.Disk.{DiskState}
 use Rattle.alta_dump.specs.Shown.{dump_tests}
 use Rattle.alta_meaning.specs.Standing.{StandsFor}
+use Rattle.alta_loading.specs.Kept.{AreKept}
 use Rattle.alta_loading.specs.Loads.{Load, IsFirstFault, IsWhole, load_sizes}
 use Rattle.alta_loading.specs.Met.{each_once, loads_of_tests}
-use Rattle.alta_loading.specs.Tested.{AreEndsWhole}
-use Rattle.alta_loading.specs.declared.mark.Ends.{Ends}
+use Rattle.alta_loading.specs.declared.kept.KeptLists.{KeptLists}
 use Rattle.alta_machine.specs.declared.document.State.{State}
 use Rattle.alta_machine.specs.Command.{Command, adds, deletes, searches, counts, explains, opens, fetches, closes, ranks, flushes, merges, steps, asks_stats, dumps}
 use Rattle.alta_machine.specs.Lines.{Reading, asks, refuses, reading_of}
@@ -111,16 +111,16 @@ top_text_loads store text = ranked_loads_of_text (levels_of store) (newest_in st
 abbrev pub open_loads : Store → List OpenCursor → List ℕ → List Load
 open_loads store cursors text = command_loads (levels_of store) (newest_in store) (length cursors) (opens text)
 
--- ---- the mark of the lists of all ends
+-- ---- what is known of lists that were tested
 
--- where it says that those of a store's levels were tested, they are whole on the disk, if that tells
-abbrev pub MarkHolds : Type 0 → DiskState → Store → Ends → Type 0
-MarkHolds tells disk store ends = tells → AreEndsWhole ends disk.content (levels_of store)
+-- what is known of the lists of a store's levels holds on the disk
+abbrev pub KeptHolds : Type 0 → DiskState → Store → KeptLists → Type 0
+KeptHolds tells disk store kept = AreKept tells disk.content (levels_of store) kept
 
--- Lists may be loaded: store and disk agree, and the mark holds.
-pub record MayLoad (tells : Type 0) (disk : DiskState) (store : Store) (ends : Ends) : Type 0 where
+-- Lists may be loaded: store and disk agree, and what is known of lists holds.
+pub record MayLoad (tells : Type 0) (disk : DiskState) (store : Store) (kept : KeptLists) : Type 0 where
   pub agrees : Agrees tells disk store
-  pub mark : MarkHolds tells disk store ends
+  pub known : KeptHolds tells disk store kept
 
 -- ---- a call that loads
 
@@ -134,15 +134,15 @@ pub record Loads {X : Type 0} (tells : Type 0) (loads : List Load) (before after
   pub damaged : (place : ℕ) → tells → IsFirstFault before.content loads place → AnswersFault result (Damaged place)
   pub cause : result ≡ Err Disk → Rose before.faults after.faults
 
--- Lists are loaded for a store: damage comes only where the disk stands for no state, and the mark holds afterwards.
-pub record LoadsMarked {X : Type 0} (tells : Type 0) (store : Store) (ends_now : Ends) (loads : List Load) (before after : DiskState) (result : Result X StoreFault) : Type 0 where
+-- Lists are loaded for a store: damage comes only where the disk stands for no state, and what is known afterwards holds.
+pub record LoadsKept {X : Type 0} (tells : Type 0) (store : Store) (kept_now : KeptLists) (loads : List Load) (before after : DiskState) (result : Result X StoreFault) : Type 0 where
   pub loaded : Loads tells loads before after result
   pub undamaged : (s : State) → tells → StandsFor s before.content → IfErr result IsOutside
-  pub mark : MarkHolds tells after store ends_now
+  pub known : KeptHolds tells after store kept_now
 
 -- A call that answers a text by the lists that it loads for a store. No disk is called for it where it is idle, and for none that it
--- refuses; then the mark is as it was.
-pub record Queries {D : Type 0} (tells : Type 0) (state : D → DiskState) (disk disk_now : D) (store : Store) (ends ends_now : Ends) (loads : List Load) (idle : Type 0) (result : Result (List ℕ) StoreFault) : Type 0 where
-  pub loading : LoadsMarked tells store ends_now loads (state disk) (state disk_now) result
-  pub refused : IfOk result (λ reply. IsRefusal reply → (disk_now ≡ disk) × (ends_now ≡ ends))
+-- refuses; then what is known is as it was.
+pub record Queries {D : Type 0} (tells : Type 0) (state : D → DiskState) (disk disk_now : D) (store : Store) (kept kept_now : KeptLists) (loads : List Load) (idle : Type 0) (result : Result (List ℕ) StoreFault) : Type 0 where
+  pub loading : LoadsKept tells store kept_now loads (state disk) (state disk_now) result
+  pub refused : IfOk result (λ reply. IsRefusal reply → (disk_now ≡ disk) × (kept_now ≡ kept))
   pub idles : idle → (disk_now ≡ disk) × IfErr result (λ e. e ≡ Memory)

@@ -13,7 +13,7 @@ use crate::searching::load;
 use alta_codec::{Steps, Text};
 use alta_disk::Disk;
 use alta_dump::dump_order;
-use alta_loading::Ends;
+use alta_loading::KeptLists;
 use alta_search::Snapshot;
 use alta_store::{Store, StoreFault};
 use std::alloc::{AllocError, Global};
@@ -27,16 +27,16 @@ pub fn dump<D: Disk>(
     alloc: Global,
     disk: &mut D,
     store: &Store,
-    ends: &mut Ends,
+    kept: &mut KeptLists,
 ) -> Result<Text, StoreFault>
-    requires { MayLoad D.tells (D.state disk.old) store.now ends.old }
+    requires { MayLoad D.tells (D.state disk.old) store.now kept.old }
     ensures reply { (s : State) → D.tells → StandsFor s (D.state disk.old).content → IfOk result (λ reply. reply ≡ dump_of s) }
-    ensures queries { Queries D.tells D.state disk.old disk.new store.now ends.old ends.new (order_loads store.now dump_tests) ⊥ result }
+    ensures queries { Queries D.tells D.state disk.old disk.new store.now kept.old kept.new (order_loads store.now dump_tests) ⊥ result }
 {
     let Ok(order) = dump_order(alloc) else {
         return Err(StoreFault::Memory);
     };
-    match load(alloc, disk, store, ends, order) {
+    match load(alloc, disk, store, kept, order) {
         Ok(snapshot) => dumped(alloc, &snapshot),
         Err(fault) => Err(fault),
     }

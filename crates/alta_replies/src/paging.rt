@@ -12,7 +12,7 @@ ghost use Rattle.alta_machine.specs.declared.cursors.TheConstants.{CURSORS};
 ghost use Rattle.alta_replies.specs.Replies.{IsReply};
 ghost use Rattle.alta_replies.specs.Turns.{Turns, TurnsCursors};
 ghost use Rattle.alta_machine.specs.Cursors.{closing, fetching, opened_over, opening};
-ghost use Rattle.alta_replies.specs.Loading.{LoadsMarked, MayLoad, Queries, open_loads, search_loads};
+ghost use Rattle.alta_replies.specs.Loading.{LoadsKept, MayLoad, Queries, open_loads, search_loads};
 ghost use Rattle.alta_machine.specs.Machine.{IsRefusal};
 ghost use Rattle.alta_machine.specs.Searching.{IsNoQuery, row_lines};
 
@@ -20,7 +20,7 @@ use crate::replying::{put_answers, refused, text, written};
 use crate::searching::plan_and_load;
 use alta_codec::{Steps, Text};
 use alta_disk::Disk;
-use alta_loading::Ends;
+use alta_loading::KeptLists;
 use alta_query::{Query, parse};
 use alta_search::{Cursor, Cursors, Page};
 use alta_store::{Store, StoreFault};
@@ -34,20 +34,20 @@ pub fn open<D: Disk>(
     alloc: Global,
     disk: &mut D,
     store: &Store,
-    ends: &mut Ends,
+    kept: &mut KeptLists,
     cursors: &mut Cursors,
     text: &str,
 ) -> Result<Text, StoreFault>
-    requires { MayLoad D.tells (D.state disk.old) store.now ends.old }
+    requires { MayLoad D.tells (D.state disk.old) store.now kept.old }
     ensures turned { (s : State) (all : List OpenAnswers) → D.tells → StandsFor s (D.state disk.old).content → AreOpen cursors.old all → Turns (opening text.now s.documents all) cursors.new result }
     ensures kept { IfOk result (λ reply. IsRefusal reply → cursors.new ≡ cursors.old) }
-    ensures queries { Queries D.tells D.state disk.old disk.new store.now ends.old ends.new (open_loads store.now cursors.old text.now) (IsNoQuery text.now ⊎ (CURSORS ≤ length cursors.old)) result }
+    ensures queries { Queries D.tells D.state disk.old disk.new store.now kept.old kept.new (open_loads store.now cursors.old text.now) (IsNoQuery text.now ⊎ (CURSORS ≤ length cursors.old)) result }
 {
     let query = match parse(alloc, text) {
         Ok(query) => query,
         Err(fault) => return refused(alloc, fault),
     };
-    let reply = open_query(alloc, disk, store, ends, cursors, &query);
+    let reply = open_query(alloc, disk, store, kept, cursors, &query);
     drop(query);
     reply
 }
@@ -57,20 +57,20 @@ fn open_query<D: Disk>(
     alloc: Global,
     disk: &mut D,
     store: &Store,
-    ends: &mut Ends,
+    kept: &mut KeptLists,
     cursors: &mut Cursors,
     query: &Query,
 ) -> Result<Text, StoreFault>
-    requires { MayLoad D.tells (D.state disk.old) store.now ends.old }
+    requires { MayLoad D.tells (D.state disk.old) store.now kept.old }
     ensures turned { (s : State) (all : List OpenAnswers) → D.tells → StandsFor s (D.state disk.old).content → AreOpen cursors.old all
         → Turns (opened_over (answers s.documents (shape query.now)) all) cursors.new result }
     ensures kept { IfOk result (λ reply. IsRefusal reply → cursors.new ≡ cursors.old) }
-    ensures queries { Queries D.tells D.state disk.old disk.new store.now ends.old ends.new (if nat_le CURSORS (length cursors.old) then [] else search_loads store.now (plan_of (shape query.now))) (CURSORS ≤ length cursors.old) result }
+    ensures queries { Queries D.tells D.state disk.old disk.new store.now kept.old kept.new (if nat_le CURSORS (length cursors.old) then [] else search_loads store.now (plan_of (shape query.now))) (CURSORS ≤ length cursors.old) result }
 {
     if cursors.is_full() {
         return text(alloc, "! too many cursors\n");
     }
-    match put_cursor(alloc, disk, store, ends, cursors, query) {
+    match put_cursor(alloc, disk, store, kept, cursors, query) {
         Ok(number) => numbered(alloc, "cursor", number),
         Err(fault) => Err(fault),
     }
@@ -81,18 +81,18 @@ fn put_cursor<D: Disk>(
     alloc: Global,
     disk: &mut D,
     store: &Store,
-    ends: &mut Ends,
+    kept: &mut KeptLists,
     cursors: &mut Cursors,
     query: &Query,
 ) -> Result<u64, StoreFault>
-    requires may { MayLoad D.tells (D.state disk.old) store.now ends.old }
+    requires may { MayLoad D.tells (D.state disk.old) store.now kept.old }
     requires room { length cursors.old < CURSORS }
     ensures opened { (s : State) (all : List OpenAnswers) → D.tells → StandsFor s (D.state disk.old).content → AreOpen cursors.old all
         → OnOk result (AreOpen cursors.new (with_opened (answers s.documents (shape query.now)) all)) }
     ensures number { IfOk result (λ number. (all : List OpenAnswers) → AreOpen cursors.old all → number ≡ least_free all) }
-    ensures loads { LoadsMarked D.tells store.now ends.new (search_loads store.now (plan_of (shape query.now))) (D.state disk.old) (D.state disk.new) result }
+    ensures loads { LoadsKept D.tells store.now kept.new (search_loads store.now (plan_of (shape query.now))) (D.state disk.old) (D.state disk.new) result }
 {
-    let (plan, snapshot) = match plan_and_load(alloc, disk, store, ends, query) {
+    let (plan, snapshot) = match plan_and_load(alloc, disk, store, kept, query) {
         Ok(planned) => planned,
         Err(fault) => return Err(fault),
     };

@@ -27,7 +27,7 @@ ghost use Rattle.alta_search.specs.Tops.{AreBest, AreToRank};
 ghost use Rattle.alta_machine.specs.Scores.{scored};
 ghost use Rattle.alta_search.specs.View.{Shows};
 ghost use Rattle.alta_replies.specs.Replies.{IsReply};
-ghost use Rattle.alta_replies.specs.Loading.{LoadsMarked, MayLoad, Queries, order_loads, search_loads, text_loads, top_loads, top_text_loads};
+ghost use Rattle.alta_replies.specs.Loading.{LoadsKept, MayLoad, Queries, order_loads, search_loads, text_loads, top_loads, top_text_loads};
 ghost use Rattle.alta_machine.specs.Machine.{IsRefusal};
 ghost use Rattle.alta_machine.specs.Searching.{IsNoQuery, answer_lines, score_lines, found_line, found_by, counted_by, ranked_by, searching, counting, explaining, ranking};
 
@@ -35,7 +35,7 @@ use crate::replying::{put_answers, put_count, put_scores, refused, written};
 use alta_codec::{Len, Steps, Text};
 use alta_compile::{Plan, a_plan_is_text, compile};
 use alta_disk::Disk;
-use alta_loading::{Ends, load_ordered};
+use alta_loading::{KeptLists, load_ordered};
 use alta_query::{Query, parse, print};
 use alta_search::{Loading, Page, Snapshot, Top, loading_order, ranking_order};
 use alta_store::{Sources, Store, StoreFault, a_search_sees_the_state, load_fault};
@@ -49,18 +49,18 @@ pub fn search<D: Disk>(
     alloc: Global,
     disk: &mut D,
     store: &Store,
-    ends: &mut Ends,
+    kept: &mut KeptLists,
     text: &str,
 ) -> Result<Text, StoreFault>
-    requires { MayLoad D.tells (D.state disk.old) store.now ends.old }
+    requires { MayLoad D.tells (D.state disk.old) store.now kept.old }
     ensures reply { (s : State) → D.tells → StandsFor s (D.state disk.old).content → IfOk result (λ reply. reply ≡ searching text.now s.documents) }
-    ensures queries { Queries D.tells D.state disk.old disk.new store.now ends.old ends.new (text_loads store.now text.now) (IsNoQuery text.now) result }
+    ensures queries { Queries D.tells D.state disk.old disk.new store.now kept.old kept.new (text_loads store.now text.now) (IsNoQuery text.now) result }
 {
     let query = match parse(alloc, text) {
         Ok(query) => query,
         Err(fault) => return refused(alloc, fault),
     };
-    let reply = search_and_list(alloc, disk, store, ends, &query);
+    let reply = search_and_list(alloc, disk, store, kept, &query);
     drop(query);
     reply
 }
@@ -71,18 +71,18 @@ pub fn count<D: Disk>(
     alloc: Global,
     disk: &mut D,
     store: &Store,
-    ends: &mut Ends,
+    kept: &mut KeptLists,
     text: &str,
 ) -> Result<Text, StoreFault>
-    requires { MayLoad D.tells (D.state disk.old) store.now ends.old }
+    requires { MayLoad D.tells (D.state disk.old) store.now kept.old }
     ensures reply { (s : State) → D.tells → StandsFor s (D.state disk.old).content → IfOk result (λ reply. reply ≡ counting text.now s.documents) }
-    ensures queries { Queries D.tells D.state disk.old disk.new store.now ends.old ends.new (text_loads store.now text.now) (IsNoQuery text.now) result }
+    ensures queries { Queries D.tells D.state disk.old disk.new store.now kept.old kept.new (text_loads store.now text.now) (IsNoQuery text.now) result }
 {
     let query = match parse(alloc, text) {
         Ok(query) => query,
         Err(fault) => return refused(alloc, fault),
     };
-    let reply = search_and_count(alloc, disk, store, ends, &query);
+    let reply = search_and_count(alloc, disk, store, kept, &query);
     drop(query);
     reply
 }
@@ -94,19 +94,19 @@ pub fn rank<D: Disk>(
     alloc: Global,
     disk: &mut D,
     store: &Store,
-    ends: &mut Ends,
+    kept: &mut KeptLists,
     count: u64,
     text: &str,
 ) -> Result<Text, StoreFault>
-    requires { MayLoad D.tells (D.state disk.old) store.now ends.old }
+    requires { MayLoad D.tells (D.state disk.old) store.now kept.old }
     ensures reply { (s : State) → D.tells → StandsFor s (D.state disk.old).content → IfOk result (λ reply. reply ≡ ranking count text.now s.documents) }
-    ensures queries { Queries D.tells D.state disk.old disk.new store.now ends.old ends.new (top_text_loads store.now text.now) (IsNoQuery text.now) result }
+    ensures queries { Queries D.tells D.state disk.old disk.new store.now kept.old kept.new (top_text_loads store.now text.now) (IsNoQuery text.now) result }
 {
     let query = match parse(alloc, text) {
         Ok(query) => query,
         Err(fault) => return refused(alloc, fault),
     };
-    let reply = search_and_rank(alloc, disk, store, ends, count, &query);
+    let reply = search_and_rank(alloc, disk, store, kept, count, &query);
     drop(query);
     reply
 }
@@ -148,14 +148,14 @@ fn search_and_list<D: Disk>(
     alloc: Global,
     disk: &mut D,
     store: &Store,
-    ends: &mut Ends,
+    kept: &mut KeptLists,
     query: &Query,
 ) -> Result<Text, StoreFault>
-    requires { MayLoad D.tells (D.state disk.old) store.now ends.old }
+    requires { MayLoad D.tells (D.state disk.old) store.now kept.old }
     ensures reply { (s : State) → D.tells → StandsFor s (D.state disk.old).content → IfOk result (λ reply. reply ≡ found_by s.documents (Ok (shape query.now))) }
-    ensures queries { Queries D.tells D.state disk.old disk.new store.now ends.old ends.new (search_loads store.now (plan_of (shape query.now))) ⊥ result }
+    ensures queries { Queries D.tells D.state disk.old disk.new store.now kept.old kept.new (search_loads store.now (plan_of (shape query.now))) ⊥ result }
 {
-    match plan_and_load(alloc, disk, store, ends, query) {
+    match plan_and_load(alloc, disk, store, kept, query) {
         Ok((plan, snapshot)) => {
             let reply = written(all_listed(alloc, &plan, query, &snapshot));
             drop(plan);
@@ -191,14 +191,14 @@ fn search_and_count<D: Disk>(
     alloc: Global,
     disk: &mut D,
     store: &Store,
-    ends: &mut Ends,
+    kept: &mut KeptLists,
     query: &Query,
 ) -> Result<Text, StoreFault>
-    requires { MayLoad D.tells (D.state disk.old) store.now ends.old }
+    requires { MayLoad D.tells (D.state disk.old) store.now kept.old }
     ensures reply { (s : State) → D.tells → StandsFor s (D.state disk.old).content → IfOk result (λ reply. reply ≡ counted_by s.documents (Ok (shape query.now))) }
-    ensures queries { Queries D.tells D.state disk.old disk.new store.now ends.old ends.new (search_loads store.now (plan_of (shape query.now))) ⊥ result }
+    ensures queries { Queries D.tells D.state disk.old disk.new store.now kept.old kept.new (search_loads store.now (plan_of (shape query.now))) ⊥ result }
 {
-    match plan_and_load(alloc, disk, store, ends, query) {
+    match plan_and_load(alloc, disk, store, kept, query) {
         Ok((plan, snapshot)) => {
             let reply = written(all_counted(alloc, &plan, query, &snapshot));
             drop(plan);
@@ -232,16 +232,16 @@ fn search_and_rank<D: Disk>(
     alloc: Global,
     disk: &mut D,
     store: &Store,
-    ends: &mut Ends,
+    kept: &mut KeptLists,
     count: u64,
     query: &Query,
 ) -> Result<Text, StoreFault>
-    requires may { MayLoad D.tells (D.state disk.old) store.now ends.old }
+    requires may { MayLoad D.tells (D.state disk.old) store.now kept.old }
     requires read { IsWellFormed (shape query.now) }
     ensures reply { (s : State) → D.tells → StandsFor s (D.state disk.old).content → IfOk result (λ reply. reply ≡ ranked_by count s.documents (Ok (shape query.now))) }
-    ensures queries { Queries D.tells D.state disk.old disk.new store.now ends.old ends.new (top_loads store.now (plan_of (shape query.now))) ⊥ result }
+    ensures queries { Queries D.tells D.state disk.old disk.new store.now kept.old kept.new (top_loads store.now (plan_of (shape query.now))) ⊥ result }
 {
-    match plan_and_load_for_top(alloc, disk, store, ends, query) {
+    match plan_and_load_for_top(alloc, disk, store, kept, query) {
         Ok((plan, snapshot)) => {
             let reply = written(all_ranked(alloc, &plan, query, &snapshot, count));
             drop(plan);
@@ -285,14 +285,14 @@ pub(crate) fn plan_and_load<D: Disk>(
     alloc: Global,
     disk: &mut D,
     store: &Store,
-    ends: &mut Ends,
+    kept: &mut KeptLists,
     query: &Query,
 ) -> Result<(Plan, Snapshot), StoreFault>
-    requires { MayLoad D.tells (D.state disk.old) store.now ends.old }
+    requires { MayLoad D.tells (D.state disk.old) store.now kept.old }
     ensures plan { IfOk result (λ found. tree found.0 ≡ plan_of (shape query.now)) }
     ensures tests { IfOk result (λ found. found.1.tests ≡ tests_of (tree found.0)) }
     ensures answers { (s : State) → D.tells → StandsFor s (D.state disk.old).content → IfOk result (λ found. AreToCome (tree found.0) found.1 0 (answers s.documents (shape query.now))) }
-    ensures loads { LoadsMarked D.tells store.now ends.new (search_loads store.now (plan_of (shape query.now))) (D.state disk.old) (D.state disk.new) result }
+    ensures loads { LoadsKept D.tells store.now kept.new (search_loads store.now (plan_of (shape query.now))) (D.state disk.old) (D.state disk.new) result }
 {
     let Ok(plan) = compile(alloc, query) else {
         return Err(StoreFault::Memory);
@@ -301,7 +301,7 @@ pub(crate) fn plan_and_load<D: Disk>(
         drop(plan);
         return Err(StoreFault::Memory);
     };
-    match load(alloc, disk, store, ends, order) {
+    match load(alloc, disk, store, kept, order) {
         Ok(snapshot) => Ok((plan, snapshot)),
         Err(fault) => {
             drop(plan);
@@ -315,15 +315,15 @@ fn plan_and_load_for_top<D: Disk>(
     alloc: Global,
     disk: &mut D,
     store: &Store,
-    ends: &mut Ends,
+    kept: &mut KeptLists,
     query: &Query,
 ) -> Result<(Plan, Snapshot), StoreFault>
-    requires { MayLoad D.tells (D.state disk.old) store.now ends.old }
+    requires { MayLoad D.tells (D.state disk.old) store.now kept.old }
     ensures plan { IfOk result (λ found. tree found.0 ≡ plan_of (shape query.now)) }
     ensures tests { IfOk result (λ found. found.1.tests ≡ tests_of (tree found.0) ++ title_end ∷ []) }
     ensures answers { (s : State) → D.tells → StandsFor s (D.state disk.old).content
         → IfOk result (λ found. AreToRank (tree found.0) found.1 (answers s.documents (shape query.now))) }
-    ensures loads { LoadsMarked D.tells store.now ends.new (top_loads store.now (plan_of (shape query.now))) (D.state disk.old) (D.state disk.new) result }
+    ensures loads { LoadsKept D.tells store.now kept.new (top_loads store.now (plan_of (shape query.now))) (D.state disk.old) (D.state disk.new) result }
 {
     let Ok(plan) = compile(alloc, query) else {
         return Err(StoreFault::Memory);
@@ -332,7 +332,7 @@ fn plan_and_load_for_top<D: Disk>(
         drop(plan);
         return Err(StoreFault::Memory);
     };
-    match load(alloc, disk, store, ends, order) {
+    match load(alloc, disk, store, kept, order) {
         Ok(snapshot) => Ok((plan, snapshot)),
         Err(fault) => {
             drop(plan);
@@ -346,16 +346,16 @@ pub(crate) fn load<D: Disk>(
     alloc: Global,
     disk: &mut D,
     store: &Store,
-    ends: &mut Ends,
+    kept: &mut KeptLists,
     order: Loading,
 ) -> Result<Snapshot, StoreFault>
-    requires { MayLoad D.tells (D.state disk.old) store.now ends.old }
+    requires { MayLoad D.tells (D.state disk.old) store.now kept.old }
     ensures tests { IfOk result (λ snapshot. snapshot.tests ≡ used order) }
     ensures answers { (s : State) (q : Shape) → D.tells → StandsFor s (D.state disk.old).content → IfOk result (λ snapshot. AreToCome (plan_of q) snapshot 0 (answers s.documents q)) }
     ensures ranked { (s : State) (q : Shape) → D.tells → StandsFor s (D.state disk.old).content
         → IfOk result (λ snapshot. AreToRank (plan_of q) snapshot (answers s.documents q)) }
     ensures shown { (s : State) → D.tells → StandsFor s (D.state disk.old).content → IfOk result (λ snapshot. ShowsDocuments snapshot s.documents) }
-    ensures loads { LoadsMarked D.tells store.now ends.new (order_loads store.now (used order)) (D.state disk.old) (D.state disk.new) result }
+    ensures loads { LoadsKept D.tells store.now kept.new (order_loads store.now (used order)) (D.state disk.old) (D.state disk.new) result }
 {
     a_search_sees_the_state::<D>();
     let Ok(sources) = store.sources() else {
@@ -367,7 +367,7 @@ pub(crate) fn load<D: Disk>(
         gone,
         rows,
     } = sources;
-    match load_ordered(alloc, disk, order, levels, ends, newest, rows, gone) {
+    match load_ordered(alloc, disk, order, levels, kept, newest, rows, gone) {
         Ok(snapshot) => Ok(snapshot),
         Err(fault) => Err(load_fault(fault)),
     }

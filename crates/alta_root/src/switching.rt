@@ -5,7 +5,7 @@
 ghost use Rattle.std.specs.Prelude.{◌≡◌, ◌+◌, ◌≤◌, ◌∷◌, length, OnOk};
 ghost use Rattle.alta_layout.specs.declared.places.TheConstants.{HEAD_BYTES, SLOT_BYTES};
 ghost use Rattle.alta_layout.specs.Places.{slot_start};
-ghost use Rattle.alta_disk.specs.Disk.{DiskState, Each, Passes, Stands};
+ghost use Rattle.alta_disk.specs.Disk.{DiskState, Each, Holds, Passes, Stands, Torn};
 ghost use Rattle.alta_disk.specs.Calls.{Charges, Syncs};
 ghost use Rattle.alta_disk.specs.Parts.{part};
 ghost use Rattle.alta_root.specs.Root.{body_of};
@@ -42,7 +42,7 @@ pub fn switch<D: Disk>(disk: &mut D, slot: Slot, root: &Root) -> Result<(), Fail
 {
     let body = spell(root);
     close(disk, slot)?;
-    write_synced(disk, slot.start() + 1, body.as_slice())?;
+    write_body(disk, slot, body.as_slice())?;
     write_synced(disk, slot.start(), &[GATE_OPEN])?;
     Ok(())
 }
@@ -65,4 +65,14 @@ fn close<D: Disk>(disk: &mut D, slot: Slot) -> Result<(), Failed>
     }
     write_synced(disk, slot.start(), &[GATE_CLOSED])?;
     Ok(())
+}
+
+// Writes a root's body behind the slot's gate, and syncs: all that was pending is firm before the gate is opened.
+fn write_body<D: Disk>(disk: &mut D, slot: Slot, body: &[u8]) -> Result<(), Failed>
+    requires inside { D.tells → slot_start slot + 1 ≤ length (D.state disk.old).content }
+    requires fits { slot_start slot + 1 + length body.now ≤ (D.state disk.old).limit }
+    ensures written { D.tells → OnOk result (Holds (D.state disk.old).content (slot_start slot + 1) body.now (D.state disk.new).content) }
+    ensures syncs { Syncs 0 (Torn (slot_start slot + 1) (length body.now)) (D.state disk.old) (D.state disk.new) result }
+{
+    write_synced(disk, slot.start() + 1, body)
 }

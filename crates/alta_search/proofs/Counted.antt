@@ -4,7 +4,7 @@ use Rattle.std.specs.Prelude.{All, IsTrue, None, Option, Result, is_some}
 use Rattle.std.proofs.lemmas.Result.{IfOk-weaker}
 use Rattle.alta_compile.specs.Conjoined.{conjunction_of, titled_word, stem_in, is_either, either_words}
 use Rattle.alta_compile.specs.Listing.{plan_list}
-use Rattle.alta_compile.specs.Space.{Placed, IsSpace, document_end, ends_of, list_of}
+use Rattle.alta_compile.specs.Space.{Placed, document_end, ends_of, list_of}
 use Rattle.alta_compile.specs.declared.asked.Conjunction.{Conjunction}
 use Rattle.alta_compile.proofs.Ends.{plan_rises}
 use Rattle.alta_lead.specs.Followed.{ends_followed}
@@ -20,7 +20,7 @@ use Rattle.alta_search.specs.Leads.{AreByRarest}
 use Rattle.alta_search.specs.Met.{IsExact}
 use Rattle.alta_search.specs.Plans.{tests_of}
 use Rattle.alta_search.specs.View.{View, Shows}
-use Rattle.alta_search.specs.Walked.{AreSearchSteps, CountsAnswers, WalksOver}
+use Rattle.alta_search.specs.Walked.{CountsAnswers, WalksOver}
 use Rattle.alta_search.proofs.Either.{either_is, either_other}
 use Rattle.alta_search.proofs.Paging.{rarest_none}
 use Rattle.alta_search.proofs.Stems.{stem_is, stem_other}
@@ -28,7 +28,7 @@ use Rattle.alta_search.proofs.Tallying.{plan_live}
 use Rattle.alta_search.proofs.Titled.{title_is, title_other}
 
 -- the ends of a list that were not deleted are the answers of a plan that finds them
-live_is : (p : Tree) (v : View) (space : List Placed) (found : List ℕ) (n : ℕ) → Shows space v → plan_list space p ≡ found → n ≡ count_live found v.gone 0 → n ≡ length (coming space p v 0)
+pub live_is : (p : Tree) (v : View) (space : List Placed) (found : List ℕ) (n : ℕ) → Shows space v → plan_list space p ≡ found → n ≡ count_live found v.gone 0 → n ≡ length (coming space p v 0)
 live_is p v space found n shows finds is = is ∙ ap (λ l. count_live l v.gone 0) (sym finds) ∙ sym (plan_live space p v shows (plan_rises space shows.lawful p))
 
 -- a walk over the lists of what is no conjunction counts the answers

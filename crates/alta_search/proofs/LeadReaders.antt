@@ -40,7 +40,7 @@ sizes [] = refl
 sizes (x ∷ xs) = omega (arith, length-append (level_list x) (concat (map level_list xs)), sizes xs, sum_by-cons size x xs)
 
 -- the locations of a test that has one term at most are those of this term
-single_whole : (levels : List (List ℕ)) → IsRising (concat levels) → test_list (levels ∷ []) ≡ concat levels
+pub single_whole : (levels : List (List ℕ)) → IsRising (concat levels) → test_list (levels ∷ []) ≡ concat levels
 unfolding union_of
 single_whole levels r = with_none 0 (concat levels) (above_from_rising (concat levels) r)
 

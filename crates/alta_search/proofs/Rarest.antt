@@ -15,11 +15,11 @@ use Rattle.alta_search.specs.Conjoined.{tests_against, conjoined_tests}
 use Rattle.alta_search.specs.Leads.{thirds, IsLeadOf, IsLedOver}
 use Rattle.alta_search.specs.Lists.{test_list, IsCut, count_lists, count_locations, count_below}
 use Rattle.alta_search.specs.Met.{IsSingle}
-use Rattle.alta_search.specs.Plans.{lists}
+use Rattle.alta_search.specs.Plans.{lists, locations}
 use Rattle.alta_search.specs.View.{View, Shows}
 use Rattle.alta_search.specs.Walks.{PlanView}
 use Rattle.alta_search.proofs.LeadReaders.{single_size}
-use Rattle.alta_search.proofs.Parts.{all_front, all_back, all_parts, sum_parts}
+use Rattle.alta_search.proofs.Parts.{all_front, all_back, all_parts, sum_parts, read_at}
 use Rattle.alta_search.proofs.Planting.{same_front}
 
 abbrev Cut : Type 0
@@ -156,30 +156,35 @@ module _ (c : Conjunction) (v : View) (ends : Cut) (words rest : List Cut) (new 
           length-map c.negated (list_of space),
         )
 
+    at_test : (ws : List Cut) (i : ℕ) → i < length ws → test_list (get_or ws i []) ≡ get_or (map test_list ws) i []
+    at_test [] i h = absurd (omega (arith, h))
+    at_test (x ∷ xs) zero h = refl
+    at_test (x ∷ xs) (suc i) h = at_test xs i (omega (arith, h))
+
+    at_word : (ts : List Test) (i : ℕ) (e : Test) → i < length ts → list_of space (get_or ts i e) ≡ get_or (map (list_of space) ts) i []
+    at_word [] i e h = absurd (omega (arith, h))
+    at_word (x ∷ xs) zero e h = refl
+    at_word (x ∷ xs) (suc i) e h = at_word xs i e (omega (arith, h))
+
+    -- a word has as many locations as its lists
+    pub word_size : (k : ℕ) (d : Test) → k < length c.words → count_locations (get_or words k []) ≡ length (list_of space (get_or c.words k d))
+    word_size k d l =
+        let w = get_or words k [] in
+        let in_words : k < length words = omega (arith, l, sized) in
+        let one : IsSingle w = all_front IsSingle words rest (All-tail IsSingle ends (words ++ rest) all_single) k [] in_words in
+        let whole_cut : IsCut w = all_front IsCut words rest (All-tail IsCut ends (words ++ rest) all_cut) k [] in_words in
+        sym (single_size w whole_cut one) ∙ ap length (at_test words k in_words ∙ ap (λ ls. get_or ls k []) words_are ∙ sym (at_word c.words k d l))
+
     bounded : (k : ℕ) (d : Test) → k < length c.words → after + new.moves ≤ before + lists v.cuts * (2 * length (list_of space (get_or c.words k d)) + 4)
     bounded k d l =
         let w = get_or words k [] in let n = count_locations w in
         let in_words : k < length words = omega (arith, l, sized) in
-        let one : IsSingle w = all_front IsSingle words rest (All-tail IsSingle ends (words ++ rest) all_single) k [] in_words in
-        let whole_cut : IsCut w = all_front IsCut words rest (All-tail IsCut ends (words ++ rest) all_cut) k [] in_words in
-        let long : n ≡ length (list_of space (get_or c.words k d)) =
-        sym (single_size w whole_cut one) ∙ ap length (at_test words k in_words ∙ ap (λ ls. get_or ls k []) words_are ∙ sym (at_word c.words k d l)) in
-        subst (λ m. after + new.moves ≤ before + lists v.cuts * (2 * m + 4)) long
+        subst (λ m. after + new.moves ≤ before + lists v.cuts * (2 * m + 4)) (word_size k d l)
         (⊎_elim
         (λ none. none_more (after + new.moves) before (lists v.cuts * (2 * n + 4)) none)
         (λ few. within (lists v.cuts) n (1 + length words + length (thirds rest)) (lists (ends ∷ words ++ thirds rest)) (after + new.moves) before
         (omega (arith, whole count_lists, used count_lists, thirds_sum count_lists rest)) (enough few.some_ends few.some_words) (few.each k [] in_words))
         is.moves)
-      where
-        at_test : (ws : List Cut) (i : ℕ) → i < length ws → test_list (get_or ws i []) ≡ get_or (map test_list ws) i []
-        at_test [] i h = absurd (omega (arith, h))
-        at_test (x ∷ xs) zero h = refl
-        at_test (x ∷ xs) (suc i) h = at_test xs i (omega (arith, h))
-
-        at_word : (ts : List Test) (i : ℕ) (e : Test) → i < length ts → list_of space (get_or ts i e) ≡ get_or (map (list_of space) ts) i []
-        at_word [] i e h = absurd (omega (arith, h))
-        at_word (x ∷ xs) zero e h = refl
-        at_word (x ∷ xs) (suc i) e h = at_word xs i e (omega (arith, h))
 
   pub led_over : IsLedOver c v new from before after
   led_over = record {
@@ -235,16 +240,22 @@ module _ (f : ℕ → Cut) (uses words against : List ℕ) (u : ℕ) (split : us
       (subst (All P) (sym (map-append f words (thirds against)))
       (All-append P (map f words) (map f (thirds against)) b (subst (All P) (sym (thirds_map f against)) (all_thirds P (map f against) r))))
 
-  pub used_lists : lists (map f (u ∷ words ++ thirds against)) ≤ lists (map f uses)
-  used_lists =
+  used_sum : (g : Cut → ℕ) → sum_by g (map f (u ∷ words ++ thirds against)) ≤ sum_by g (map f uses)
+  used_sum g =
       omega (
         arith,
-        ap (λ us. lists (map f us)) split,
-        sum_parts count_lists f u words against,
-        sum_parts count_lists f u words (thirds against),
-        ap lists (thirds_map f against),
-        thirds_sum count_lists (map f against),
+        ap (λ us. sum_by g (map f us)) split,
+        sum_parts g f u words against,
+        sum_parts g f u words (thirds against),
+        ap (sum_by g) (thirds_map f against),
+        thirds_sum g (map f against),
       )
+
+  pub used_lists : lists (map f (u ∷ words ++ thirds against)) ≤ lists (map f uses)
+  used_lists = used_sum count_lists
+
+  pub used_locations : locations (map f (u ∷ words ++ thirds against)) ≤ locations (map f uses)
+  used_locations = used_sum count_locations
 
   pub over_uses : (c : Conjunction) (v : View) (new : PlanView) (from before after : ℕ)
       → IsLeadOf (f u) (map f words) (map f (thirds against)) new from before after → map f uses ≡ v.cuts → length words ≡ length c.words
@@ -254,6 +265,17 @@ module _ (f : ℕ → Cut) (uses words against : List ℕ) (u : ℕ) (split : us
       (subst (λ ls. IsLeadOf (f u) (map f words) ls new from before after) (thirds_map f against) is)
       (sym same ∙ ap (map f) split ∙ ap (λ ls. f u ∷ ls) (map-append f words against))
       (omega (arith, length-map words f, sized)) fits cut single
+
+  pub size_over : (c : Conjunction) (v : View) (new : PlanView) (from before after : ℕ)
+      → IsLeadOf (f u) (map f words) (map f (thirds against)) new from before after → map f uses ≡ v.cuts → length words ≡ length c.words
+      → v.tests ≡ conjoined_tests c → All IsCut v.cuts → All IsSingle v.cuts → (space : List Placed) → Shows space v → (k : ℕ) (d : Test) → k < length c.words
+      → count_locations (f (get_or words k 0)) ≡ length (list_of space (get_or c.words k d))
+  size_over c v new from before after is same sized fits cut single space shows k d l =
+      ap count_locations (sym (read_at f [] words k (omega (arith, l, sized))))
+      ∙ word_size c v (f u) (map f words) (map f against) new from before after
+      (subst (λ ls. IsLeadOf (f u) (map f words) ls new from before after) (thirds_map f against) is)
+      (sym same ∙ ap (map f) split ∙ ap (λ ls. f u ∷ ls) (map-append f words against))
+      (omega (arith, length-map words f, sized)) fits cut single space shows k d l
 
 -- ---- every third index
 

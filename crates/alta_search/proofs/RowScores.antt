@@ -168,7 +168,7 @@ ScoresAreOfCells = (first : ℕ) (cells : List (List (List ℕ))) (uses : List U
 -- a scorer over the snapshot scores the rows of answers as their documents
 module _ (law : ScoresAreOfCells) (space : List Placed) (v : View) (shows : Shows space v) (s : Scoring TestReader) (uses : List Use)
     (uses_are : s.uses ≡ uses) (lists_are : map reader_list s.readers ≡ space_lists space uses) (titles_are : reader_list s.titles ≡ list_of space title_end) where
-  row_score : (r : DocRow) (d : Placed) → IsRowOf r d → Has space d → scored_by s r ≡ scored uses (document_of space r)
+  pub row_score : (r : DocRow) (d : Placed) → IsRowOf r d → Has space d → scored_by s r ≡ scored uses (document_of space r)
   row_score r d (f, c) m =
       let (low, some, top) = apart_one space 1 d shows.lawful.apart m in
       let ends : content.end_of r ≡ end_of d = omega (arith, f, c) in

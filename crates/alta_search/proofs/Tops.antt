@@ -3,7 +3,7 @@ use Rattle.std.proofs.Common.{◌≡◌, ℕ, ◌+◌, ◌-◌, ◌≤◌, List,
 use Rattle.std.proofs.lemmas.List.{length-map}
 use Rattle.std.proofs.Math.Seq.{take-append_seam}
 use Rattle.alta_machine.specs.PlanOf.{plan_of}
-use Rattle.alta_compile.specs.Space.{list_of}
+use Rattle.alta_compile.specs.Space.{Placed, list_of}
 use Rattle.alta_machine.specs.Plans.{Tree}
 use Rattle.alta_compile.specs.Listing.{plan_list}
 use Rattle.alta_machine.specs.declared.document.Document.{Document}
@@ -21,7 +21,7 @@ use Rattle.alta_search.specs.Scoring.{AreScorable, IsScorerOf, last_lists, score
 use Rattle.alta_search.specs.Told.{rows_at}
 use Rattle.alta_search.specs.Tops.{AreToRank, document_of}
 use Rattle.alta_machine.specs.Scores.{scored}
-use Rattle.alta_search.specs.View.{View}
+use Rattle.alta_search.specs.View.{Shows, View}
 use Rattle.alta_search.specs.Words.{reader_list}
 use Rattle.alta_search.specs.declared.test_reader.TestReader.{TestReader}
 use Rattle.alta_search.proofs.Among.{AreAmong, among_front, uses_among}
@@ -38,27 +38,36 @@ front_of n ts rs t same e =
 pub one_less : (n k : ℕ) (ts rs : List Test) (t : Test) → ts ≡ rs ++ t ∷ [] → n ≡ length ts → n ≡ k → n - 1 + 1 ≡ k
 one_less n k ts rs t same all e = omega (arith, all, e, ap length same, length-append rs (t ∷ []))
 
-module _ (law : ScoresAreOfCells) (q : Shape) (p : Tree) (v : View) (documents : List Document) (to_rank : AreToRank p v documents) (is : p ≡ plan_of q)
-    (tests : v.tests ≡ tests_of p ++ title_end ∷ []) (few : length (uses_of q) ≤ 64) (s : Scoring TestReader) (before after : ℕ) (scorer : IsScorerOf (uses_of q) v s before after) where
+-- what the scorer reads over a space
+module _ (q : Shape) (p : Tree) (v : View) (space : List Placed) (shows : Shows space v) (is : p ≡ plan_of q)
+    (tests : v.tests ≡ tests_of p ++ title_end ∷ []) (s : Scoring TestReader) (before after : ℕ) (scorer : IsScorerOf (uses_of q) v s before after) where
   among : AreAmong (uses_of q) v.tests
   among =
       subst (AreAmong (uses_of q)) (sym tests)
       (among_front (uses_of q) (tests_of p) (title_end ∷ []) (subst (λ t. AreAmong (uses_of q) (tests_of t)) (sym is) (uses_among q)))
 
-  lists_are : map reader_list s.readers ≡ space_lists to_rank.space (uses_of q)
-  lists_are = scorer.reads ∙ uses_lists (uses_of q) v to_rank.space among to_rank.shows
+  pub scorer_lists : map reader_list s.readers ≡ space_lists space (uses_of q)
+  scorer_lists = scorer.reads ∙ uses_lists (uses_of q) v space among shows
 
-  titles_are : reader_list s.titles ≡ list_of to_rank.space title_end
-  titles_are =
-      let cuts : map test_list v.cuts ≡ map (list_of to_rank.space) (tests_of p ++ title_end ∷ []) = to_rank.shows.lists ∙ ap (map (list_of to_rank.space)) tests in
+  pub scorer_titles : reader_list s.titles ≡ list_of space title_end
+  scorer_titles =
+      let cuts : map test_list v.cuts ≡ map (list_of space) (tests_of p ++ title_end ∷ []) = shows.lists ∙ ap (map (list_of space)) tests in
       let size : length v.cuts - 1 ≡ length (tests_of p) = omega (
         arith,
         ap length cuts,
         length-map v.cuts test_list,
-        length-map (tests_of p ++ title_end ∷ []) (list_of to_rank.space),
+        length-map (tests_of p ++ title_end ∷ []) (list_of space),
         length-append (tests_of p) (title_end ∷ []),
       ) in
-      scorer.titles ∙ ap (λ k. test_list (get_or v.cuts k [])) size ∙ last_at v.cuts (tests_of p) title_end to_rank.space cuts
+      scorer.titles ∙ ap (λ k. test_list (get_or v.cuts k [])) size ∙ last_at v.cuts (tests_of p) title_end space cuts
+
+module _ (law : ScoresAreOfCells) (q : Shape) (p : Tree) (v : View) (documents : List Document) (to_rank : AreToRank p v documents) (is : p ≡ plan_of q)
+    (tests : v.tests ≡ tests_of p ++ title_end ∷ []) (few : length (uses_of q) ≤ 64) (s : Scoring TestReader) (before after : ℕ) (scorer : IsScorerOf (uses_of q) v s before after) where
+  lists_are : map reader_list s.readers ≡ space_lists to_rank.space (uses_of q)
+  lists_are = scorer_lists q p v to_rank.space to_rank.shows is tests s before after scorer
+
+  titles_are : reader_list s.titles ≡ list_of to_rank.space title_end
+  titles_are = scorer_titles q p v to_rank.space to_rank.shows is tests s before after scorer
 
   pub documents_scored : map (scored_by s) (coming to_rank.space p v 0) ≡ map (scored (uses_of q)) documents
   documents_scored =
@@ -100,3 +109,19 @@ walk_steps v n before walked e walk =
       ap (λ k. count_locations (get_or v.cuts k [])) last,
       ap (λ k. count_lists (get_or v.cuts k [])) last,
     )
+
+-- the last lists are some of all
+last_of : (cuts : List (List (List (List ℕ)))) → count_locations (get_or cuts (length cuts - 1) []) + count_lists (get_or cuts (length cuts - 1) []) ≤ locations cuts + lists cuts
+last_of [] = omega arith
+last_of (c ∷ cs) =
+    let size : length cs + 1 ≡ length (c ∷ cs) = omega arith in let at : length (c ∷ cs) - 1 ≡ length cs = omega arith in
+    omega (
+      arith,
+      sum_taken count_locations (c ∷ cs) [] (length cs) size,
+      sum_taken count_lists (c ∷ cs) [] (length cs) size,
+      ap (λ k. count_locations (get_or (c ∷ cs) k [])) at,
+      ap (λ k. count_lists (get_or (c ∷ cs) k [])) at,
+    )
+
+pub last_most : (v : View) → count_locations (last_lists v) + count_lists (last_lists v) ≤ locations v.cuts + lists v.cuts
+last_most v = last_of v.cuts

@@ -1,5 +1,5 @@
 -- The scores of rows by readers over a snapshot.
-use Rattle.std.specs.Prelude.{◌≡◌, ℕ, ◌+◌, ◌-◌, ◌<◌, ◌≤◌, List, [], ◌∷◌, map, length, slice_index_or}
+use Rattle.std.specs.Prelude.{◌≡◌, ℕ, ◌+◌, ◌-◌, ◌^◌, ◌<◌, ◌≤◌, List, [], ◌∷◌, map, length, slice_index_or}
 use Rattle.alta_codec.specs.declared.location.TheConstants.{TOP}
 use Rattle.alta_content.specs.Rows.{end_of}
 use Rattle.alta_content.specs.declared.document.DocRow.{DocRow}
@@ -38,7 +38,7 @@ pub record HasScored (old new : Scoring TestReader) (before after : ℕ) : Type 
 pub record IsScorable (asked : ℕ) (row : DocRow) : Type 0 where
   pub behind : asked < row.first
   pub some : 1 ≤ row.cells
-  pub few : row.cells ≤ 262146
+  pub few : row.cells ≤ 2 ^ 54
   pub below : end_of row < TOP
 
 -- each row may be scored behind the one before it

@@ -31,13 +31,14 @@ fn list_len(list: &LevelList) -> u64
 {
     match &list.stored {
         Stored::Coded(posting) => posting.list_len(),
+        Stored::Shared(posting) => posting.list_len(),
         Stored::Plain(list) => list.len() as u64,
         Stored::Ends(rows) => rows.ends().len() as u64,
     }
 }
 
 /// How many locations the lists of a term have.
-fn term_len(levels: &[LevelList]) -> u64
+pub(crate) fn term_len(levels: &[LevelList]) -> u64
     requires { IsRising (concat (map level_list levels.now)) }
     ensures { result ≡ length (concat (map level_list levels.now)) }
 {
@@ -82,7 +83,7 @@ fn len_at(tests: &[TestLists], index: usize) -> u64
 }
 
 /// Which of these tests has the fewest locations, the first of them.
-fn rarest(tests: &[TestLists], words: &[usize]) -> usize
+pub(crate) fn rarest(tests: &[TestLists], words: &[usize]) -> usize
     requires some { 0 < length words.now }
     requires cut { All IsCut (map (lists_at tests.now) words.now) }
     requires single { All IsSingle (map (lists_at tests.now) words.now) }
@@ -102,19 +103,23 @@ fn rarest(tests: &[TestLists], words: &[usize]) -> usize
 }
 
 /// A reader of the locations of a list, at the first. It adds one step.
-fn list_reader<'a, L: Ledger>(list: &'a LevelList, steps: &mut Steps<L>) -> SingleReader<'a>
+pub(crate) fn list_reader<'a, L: Ledger>(
+    list: &'a LevelList,
+    steps: &mut Steps<L>,
+) -> SingleReader<'a>
     requires { IsRising (level_list list.now) }
     ensures { IsMadeReader steps.old steps.new result IsSoundSingle (IsAtStart single_list single_list single_place single_left (level_list list.now)) }
 {
     match &list.stored {
         Stored::Coded(posting) => SingleReader::Coded(posting.reader(steps)),
+        Stored::Shared(posting) => SingleReader::Coded(posting.reader(steps)),
         Stored::Plain(list) => SingleReader::Plain(PlainReader::new(list, steps)),
         Stored::Ends(rows) => SingleReader::Plain(PlainReader::new(rows.ends(), steps)),
     }
 }
 
 /// A reader of the locations of the lists of a term, at the first. It adds a step a list.
-fn chain_reader<'a, L: Ledger>(
+pub(crate) fn chain_reader<'a, L: Ledger>(
     alloc: Global,
     levels: &'a [LevelList],
     steps: &mut Steps<L>,
@@ -230,7 +235,7 @@ fn led_by_rarest<'a, L: Ledger>(
 }
 
 /// Every third of these indexes.
-fn every_third(alloc: Global, uses: &[usize]) -> Result<Vec<usize>, AllocError>
+pub(crate) fn every_third(alloc: Global, uses: &[usize]) -> Result<Vec<usize>, AllocError>
     ensures { IfOk result (λ all. all.items ≡ thirds uses.now) }
 {
     let mut all = Vec::with_capacity(alloc, uses.len() / 3)?;

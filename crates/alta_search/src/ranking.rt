@@ -1,7 +1,7 @@
 // The best answers of a query.
 // Of all answers the index of the row alone is kept, and a name is copied only of one that is among the best: a heap of all names
 // would take memory by the answers and not by what is asked for.
-ghost use Rattle.std.specs.Prelude.{◌≡◌, ℕ, ◌+◌, ◌<◌, ◌≤◌, ◌∷◌, ◌++◌, [], List, map, length, All, IfSome, IfOk, OnOk};
+ghost use Rattle.std.specs.Prelude.{◌≡◌, ℕ, ◌+◌, ◌^◌, ◌<◌, ◌≤◌, true, ◌∷◌, ◌++◌, [], List, map, length, All, IfSome, IfOk, OnOk};
 ghost use Rattle.alta_machine.specs.PlanOf.{plan_of};
 ghost use Rattle.alta_compile.specs.Space.{Placed};
 ghost use Rattle.alta_compile.specs.View.{tree};
@@ -9,6 +9,8 @@ ghost use Rattle.alta_machine.specs.declared.document.Document.{Document};
 ghost use Rattle.alta_machine.specs.Matches.{IsWellFormed};
 ghost use Rattle.alta_machine.specs.Patterns.{title_end};
 ghost use Rattle.alta_query.specs.View.{shape};
+ghost use Rattle.alta_content.specs.Rows.{end_of};
+ghost use Rattle.alta_rank.specs.AnyUse.{asks_any_use};
 ghost use Rattle.alta_rank.specs.Kept.{IsBest};
 ghost use Rattle.alta_machine.specs.Uses.{uses_of};
 ghost use Rattle.alta_machine.specs.declared.scored.Scored.{Scored};
@@ -24,16 +26,20 @@ ghost use Rattle.alta_search.specs.Walked.{WalksOver};
 
 use crate::cursor::{asked, picked};
 use crate::page::Top;
-use crate::scoring::{score_row, scorer};
+use crate::scored_walk::best_scored;
+use crate::scoring::{may_lead, score_row, scorer};
 use crate::section::Section;
 use crate::snapshot::Snapshot;
 use crate::test_reader::TestReader;
 use alta_codec::{Steps, TOP};
 use alta_compile::{Conjunction, Plan};
 use alta_content::{AllRows, DocRow};
-use alta_machine::{Scored, ScoredList};
+use alta_machine::{Scored, ScoredList, Uses};
 use alta_query::Query;
-use alta_rank::{Best, Scorer, a_query_has_few_uses, a_score_is_of_the_cells, uses};
+use alta_rank::{
+    Best, Scorer, a_query_has_few_uses, a_score_is_of_an_answer, a_score_is_of_the_cells,
+    asks_any_use, uses,
+};
 use std::alloc::{AllocError, Global};
 use std::sync::ledger::Ledger;
 
@@ -78,7 +84,7 @@ fn all_answered<L: Ledger>(
 }
 
 /// Takes the document of a row in, with its score. Its name is copied only where it is kept.
-fn offer(best: &mut Best, row: &DocRow, score: u64) -> Result<(), AllocError>
+pub(crate) fn offer(best: &mut Best, row: &DocRow, score: u64) -> Result<(), AllocError>
     ensures count { best.new.count ≡ best.old.count }
     ensures best { OnOk result ((every : List Scored) → IsBest best.old.count every best.old.kept
         → IsBest best.old.count (every ++ record { number = row.now.number; name = row.now.name; score = score } ∷ []) best.new.kept) }
@@ -117,6 +123,73 @@ fn best_of<L: Ledger>(
     Ok(best)
 }
 
+/// The same, by the answers that the plan finds.
+fn top_by_plan<L: Ledger>(
+    alloc: Global,
+    plan: &Plan,
+    query: &Query,
+    uses: Uses,
+    snapshot: &Snapshot,
+    count: u64,
+    steps: &mut Steps<L>,
+) -> Result<Top, AllocError>
+    requires tests { snapshot.now.tests ≡ tests_of (tree plan.now) ++ title_end ∷ [] }
+    requires query { tree plan.now ≡ plan_of (shape query.now) }
+    requires uses { uses ≡ uses_of (shape query.now) }
+    ensures best { IfOk result (λ top. IsWellFormed (shape query.now) → (documents : List Document) → AreToRank (tree plan.now) snapshot.now documents
+        → AreBest (uses_of (shape query.now)) documents count top) }
+    ensures total { IfOk result (λ top. (space : List Placed) → Shows space snapshot.now → top.total ≡ length (coming space (tree plan.now) snapshot.now 0)) }
+    ensures most { AreTopSteps (uses_of (shape query.now)) snapshot.now steps.old steps.new }
+{
+    a_query_has_few_uses();
+    a_score_is_of_the_cells();
+    let picks = all_answered(alloc, plan, query, snapshot, steps)?;
+    let mut scorer = scorer(alloc, &snapshot.whole(), uses, steps)?;
+    let best = best_of(alloc, &mut scorer, snapshot.rows(), &picks, count, steps)?;
+    Ok(Top {
+        answers: ScoredList::from_vec(best.into_sorted()),
+        total: picks.len() as u64,
+    })
+}
+
+/// The same of a query that asks for one of its uses, by the rows that have a score.
+fn top_by_uses<L: Ledger>(
+    alloc: Global,
+    plan: &Plan,
+    query: &Query,
+    uses: Uses,
+    snapshot: &Snapshot,
+    count: u64,
+    steps: &mut Steps<L>,
+) -> Result<Top, AllocError>
+    requires tests { snapshot.now.tests ≡ tests_of (tree plan.now) ++ title_end ∷ [] }
+    requires query { tree plan.now ≡ plan_of (shape query.now) }
+    requires uses { uses ≡ uses_of (shape query.now) }
+    requires any { asks_any_use (shape query.now) ≡ true }
+    requires few { length uses ≤ 64 }
+    requires low { All (λ r. end_of r < 2 ^ 54) snapshot.now.rows }
+    ensures best { IfOk result (λ top. IsWellFormed (shape query.now) → (documents : List Document) → AreToRank (tree plan.now) snapshot.now documents
+        → AreBest (uses_of (shape query.now)) documents count top) }
+    ensures total { IfOk result (λ top. (space : List Placed) → Shows space snapshot.now → top.total ≡ length (coming space (tree plan.now) snapshot.now 0)) }
+    ensures most { AreTopSteps (uses_of (shape query.now)) snapshot.now steps.old steps.new }
+{
+    a_score_is_of_the_cells();
+    a_score_is_of_an_answer();
+    let mut scorer = scorer(alloc, &snapshot.whole(), uses, steps)?;
+    let found = best_scored(
+        alloc,
+        &mut scorer,
+        snapshot.rows(),
+        snapshot.gone(),
+        count,
+        steps,
+    )?;
+    Ok(Top {
+        answers: ScoredList::from_vec(found.best.into_sorted()),
+        total: found.total,
+    })
+}
+
 /// The first `count` answers of a query by score, and how many it has in all, by its plan over the snapshot of the plan's tests and
 /// of the test of title ends behind them, as [`crate::ranking_order`] has them. It adds at most as many steps as the lists of these
 /// tests are and have locations, and as those of the query's uses are and have once more. Beside its readers it keeps the index of each
@@ -139,14 +212,9 @@ pub fn top<L: Ledger>(
     ensures total { IfOk result (λ top. (space : List Placed) → Shows space snapshot.now → top.total ≡ length (coming space (tree plan.now) snapshot.now 0)) }
     ensures most { AreTopSteps (uses_of (shape query.now)) snapshot.now steps.old steps.new }
 {
-    a_query_has_few_uses();
-    a_score_is_of_the_cells();
     let uses = uses(alloc, query)?;
-    let picks = all_answered(alloc, plan, query, snapshot, steps)?;
-    let mut scorer = scorer(alloc, &snapshot.whole(), uses, steps)?;
-    let best = best_of(alloc, &mut scorer, snapshot.rows(), &picks, count, steps)?;
-    Ok(Top {
-        answers: ScoredList::from_vec(best.into_sorted()),
-        total: picks.len() as u64,
-    })
+    if asks_any_use(query) && may_lead(&uses, snapshot.rows()) {
+        return top_by_uses(alloc, plan, query, uses, snapshot, count, steps);
+    }
+    top_by_plan(alloc, plan, query, uses, snapshot, count, steps)
 }

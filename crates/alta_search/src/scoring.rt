@@ -1,7 +1,8 @@
 // The scores of documents over a snapshot.
 // That a score fits in 64 bits is tested at each row, and is no condition on a snapshot, whose rows say no more than where documents
-// stand: so no caller owes anything for `top` to be safe. Documents and queries that were read keep these limits (`AreToRank`).
-ghost use Rattle.std.specs.Prelude.{◌≡◌, ◌↔◌, ◌+◌, ◌<◌, ◌≤◌, map, length, All, IsTrue, IfSome, IfOk, None};
+// stand: so no caller owes anything for `top` to be safe. Documents and queries that were read keep these limits (`AreToRank`), and rows
+// of which the last ends below the limit on cells do too.
+ghost use Rattle.std.specs.Prelude.{◌≡◌, ◌↔◌, ◌+◌, ◌^◌, ◌<◌, ◌≤◌, map, length, All, IsTrue, IfSome, IfOk, None};
 ghost use Rattle.alta_compile.specs.Space.{document_end};
 ghost use Rattle.alta_content.specs.Rows.{end_of};
 ghost use Rattle.alta_rank.specs.Locations.{range_score};
@@ -18,7 +19,7 @@ use crate::readers::{reader, readers};
 use crate::section::Section;
 use crate::test_reader::TestReader;
 use alta_codec::{Steps, TOP};
-use alta_content::DocRow;
+use alta_content::{AllRows, DocRow};
 use alta_machine::kinds::DOCUMENT_END;
 use alta_machine::{Test, Use, Uses};
 use alta_rank::Scorer;
@@ -28,8 +29,8 @@ use std::sync::ledger::Ledger;
 /// How many uses a query has at most.
 const USES: usize = 64;
 
-/// How many cells a document has at most.
-const CELLS: u64 = 262_146;
+/// How many cells a document has at most, so that 4 times them and the uses is below 2^64.
+const CELLS: u64 = 1 << 54;
 
 /// The test at an index; past the last one, where that of document ends stands, none.
 fn test_of<'a>(tests: &'a [TestLists], index: usize) -> Option<&'a Test>
@@ -90,6 +91,22 @@ fn indexes_for(
     Ok(indexes)
 }
 
+/// Whether a use's next location leads to the next document that may be scored: there are few uses, and all rows end below the limit
+/// on cells.
+pub(crate) fn may_lead(uses: &Uses, rows: &AllRows) -> bool
+    ensures few { IsTrue result → length uses.now ≤ 64 }
+    ensures low { IsTrue result → All (λ r. end_of r < 2 ^ 54) rows.now }
+{
+    if uses.len() > USES {
+        return false;
+    }
+    let mut walk = rows.walk();
+    match walk.reach(CELLS) {
+        Some(_) => false,
+        None => true,
+    }
+}
+
 /// A scorer by the uses of a query over the snapshot of its plan's tests, behind which stands that of title ends. It adds a step a
 /// list.
 pub(crate) fn scorer<'a, L: Ledger>(
@@ -113,7 +130,7 @@ pub(crate) fn scorer<'a, L: Ledger>(
 }
 
 /// Whether a row may be scored behind the rows before it.
-fn may_be_scored(scorer: &Scorer<TestReader<'_>>, row: &DocRow) -> bool
+pub(crate) fn may_be_scored(scorer: &Scorer<TestReader<'_>>, row: &DocRow) -> bool
     ensures { IsTrue result ↔ ((length scorer.now.uses ≤ 64) × IsScorable scorer.now.asked row.now) }
 {
     scorer.len() <= USES
@@ -122,6 +139,21 @@ fn may_be_scored(scorer: &Scorer<TestReader<'_>>, row: &DocRow) -> bool
         && row.cells <= CELLS
         && row.first < TOP
         && row.first + row.cells - 1 < TOP
+}
+
+/// The score of the document of a row that may be scored.
+pub(crate) fn score_of<L: Ledger>(
+    scorer: &mut Scorer<TestReader<'_>>,
+    row: &DocRow,
+    steps: &mut Steps<L>,
+) -> u64
+    requires few { length scorer.old.uses ≤ 64 }
+    requires may { IsScorable scorer.old.asked row.now }
+    ensures has { HasScored scorer.old scorer.new steps.old steps.new }
+    ensures score { result ≡ range_score scorer.old.uses (map reader_list scorer.old.readers) (reader_list scorer.old.titles) row.now.first (end_of row.now) }
+    ensures asked { scorer.new.asked ≡ end_of row.now }
+{
+    scorer.score(row.first, row.first + row.cells - 1, steps)
 }
 
 /// The score of the document of a row, which stands behind those of the rows before it. Of a row that can't be one of a document
@@ -139,5 +171,5 @@ pub(crate) fn score_row<L: Ledger>(
     if !may_be_scored(scorer, row) {
         return 0;
     }
-    scorer.score(row.first, row.first + row.cells - 1, steps)
+    score_of(scorer, row, steps)
 }

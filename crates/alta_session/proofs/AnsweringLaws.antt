@@ -3,7 +3,7 @@ use Rattle.std.proofs.Common.{◌≡◌, ◌≤◌, ℕ, inl, List, refl, ap, sy
 use Rattle.std.proofs.lemmas.Result.{IfOk-weaker}
 use Rattle.alta_disk.specs.Disk.{DiskState, LeavesOnly, IsLawful}
 use Rattle.alta_disk.proofs.Moments.{leaves_start}
-use Rattle.alta_loading.specs.declared.mark.Ends.{Ends}
+use Rattle.alta_loading.specs.declared.kept.KeptLists.{KeptLists}
 use Rattle.alta_machine.specs.declared.document.State.{State}
 use Rattle.alta_search.specs.Open.{AreOpen}
 use Rattle.alta_machine.specs.OpenAnswers.{OpenAnswers}
@@ -103,16 +103,16 @@ looked tells state disk session result steps tasks text lawful can replied rests
     }
 
 -- where disk and session came out as they were
-pub same_store : (session : Session) (store : Store) → store ≡ session.store → record { store = store; ends = session.ends; cursors = session.cursors; sound = session.sound } ≡ session
-same_store session store same = ap (λ (x : Store). record { store = x; ends = session.ends; cursors = session.cursors; sound = session.sound }) same
+pub same_store : (session : Session) (store : Store) → store ≡ session.store → record { store = store; kept = session.kept; cursors = session.cursors; sound = session.sound } ≡ session
+same_store session store same = ap (λ (x : Store). record { store = x; kept = session.kept; cursors = session.cursors; sound = session.sound }) same
 
 -- only its cursors changed
 abbrev pub with_cursors : Session → List OpenCursor → Session
-with_cursors session cursors = record { store = session.store; ends = session.ends; cursors = cursors; sound = session.sound }
+with_cursors session cursors = record { store = session.store; kept = session.kept; cursors = cursors; sound = session.sound }
 
--- only its cursors changed, and its mark
-abbrev pub with_mark : Session → Ends → List OpenCursor → Session
-with_mark session ends cursors = record { store = session.store; ends = ends; cursors = cursors; sound = session.sound }
+-- only its cursors changed, and what is known of lists
+abbrev pub with_kept : Session → KeptLists → List OpenCursor → Session
+with_kept session kept cursors = record { store = session.store; kept = kept; cursors = cursors; sound = session.sound }
 
 pub answers_same : {D : Type 0} (tells : Type 0) (state : D → DiskState) (disk disk_now : D) (session session_now : Session) (result : Result (List ℕ) StoreFault) (steps : Machine → Machine × List ℕ) (tasks : Machine → Option Task) → disk_now ≡ disk → session_now ≡ session
     → Answers tells state disk disk session session result steps tasks → Answers tells state disk disk_now session session_now result steps tasks
@@ -229,7 +229,7 @@ turned tells state disk session cursors result steps tasks turn lawful can memor
             undamaged = λ place is. let wanting : Damaged place ≡ Memory = is_memory result (Damaged place) memory is in absurd cc;
           };
       spoken = λ m tell speaks. stays_speaking tells (state disk) session result m.state m.state lawful can refl speaks;
-      can = if_so result (CanAnswer tells (state disk) (with_cursors session cursors)) (record { sound = can.sound; agrees = can.agrees; mark = can.mark; limit = can.limit });
+      can = if_so result (CanAnswer tells (state disk) (with_cursors session cursors)) (record { sound = can.sound; agrees = can.agrees; known = can.known; limit = can.limit });
       unchanged = IfOk-weaker result (λ reply. IsRefusal reply → cursors ≡ session.cursors) _ (λ reply same refusal. (refl, ap (with_cursors session) (same refusal))) refused;
       only = err_weaker result (λ e. e ≡ Memory) _ (λ e is. inl (inl is)) memory;
       full = λ need gap tell is. let wanting : Full need gap ≡ Memory = is_memory result (Full need gap) memory is in absurd cc;

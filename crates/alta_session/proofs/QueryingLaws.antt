@@ -7,7 +7,7 @@ use Rattle.alta_disk.proofs.Moments.{leaves_by}
 use Rattle.alta_meaning.specs.Standing.{StandsFor, StandsForEither}
 use Rattle.alta_meaning.specs.Work.{Task}
 use Rattle.alta_loading.specs.Loads.{Load, load_sizes}
-use Rattle.alta_loading.specs.declared.mark.Ends.{Ends}
+use Rattle.alta_loading.specs.declared.kept.KeptLists.{KeptLists}
 use Rattle.alta_machine.specs.declared.document.Document.{Document}
 use Rattle.alta_machine.specs.declared.document.State.{State}
 use Rattle.alta_machine.specs.Deciding.{answers}
@@ -30,7 +30,7 @@ use Rattle.alta_machine.specs.Machine.{IsRefusal, Machine, turned_by}
 use Rattle.alta_machine.specs.Searching.{IsNoQuery, answer_lines, counted_by, counting, found_by, found_line, ranked_by, ranking, score_lines, searching}
 use Rattle.alta_session.specs.Tasks.{IsBy}
 use Rattle.alta_session.specs.declared.session.Session.{Session}
-use Rattle.alta_session.proofs.AnsweringLaws.{answers_by, if_so, ok_weaker, with_mark}
+use Rattle.alta_session.proofs.AnsweringLaws.{answers_by, if_so, ok_weaker, with_kept}
 use Rattle.alta_replies.proofs.CursorLaws.{found_other, cursor_other, lines_other, no_refusal, scores_other}
 use Rattle.alta_replies.proofs.LoadingLaws.{agrees_read}
 use Rattle.alta_session.proofs.TaskLaws.{worked_none}
@@ -67,16 +67,16 @@ only_so (Err e) (inl outside) = inl outside
 only_so (Err e) (inr damaged) = inr (inr damaged)
 
 -- ---- a call that answers a query, with this turn of the machine
-pub queried : {D : Type 0} (tells : Type 0) (state : D → DiskState) (disk disk_now : D) (session : Session) (ends : Ends) (cursors : List OpenCursor) (loads : List Load) (idle : Type 0) (result : Result (List ℕ) StoreFault)
+pub queried : {D : Type 0} (tells : Type 0) (state : D → DiskState) (disk disk_now : D) (session : Session) (known : KeptLists) (cursors : List OpenCursor) (loads : List Load) (idle : Type 0) (result : Result (List ℕ) StoreFault)
     (steps : Machine → Machine × List ℕ) (tasks : Machine → Option Task) (turn : State → List OpenAnswers → Turn) → IsLawful tells (state disk) → CanAnswer tells (state disk) session
-    → Queries tells state disk disk_now session.store session.ends ends loads idle result → IfOk result (λ reply. IsRefusal reply → cursors ≡ session.cursors)
+    → Queries tells state disk disk_now session.store session.kept known loads idle result → IfOk result (λ reply. IsRefusal reply → cursors ≡ session.cursors)
     → ((s : State) (all : List OpenAnswers) → tells → StandsFor s (state disk).content → AreOpen session.cursors all → Turns (turn s all) cursors result)
     → ((s : State) (all : List OpenAnswers) → AreOpen session.cursors all → IsRefusal (turn s all).1 → idle)
-    → ((m : Machine) → steps m ≡ turned_by m (turn m.state m.cursors)) → ((m : Machine) → tasks m ≡ None) → Answers tells state disk disk_now session (with_mark session ends cursors) result steps tasks
-queried tells state disk disk_now session ends cursors loads idle result steps tasks turn lawful can queries kept turns idles is none =
+    → ((m : Machine) → steps m ≡ turned_by m (turn m.state m.cursors)) → ((m : Machine) → tasks m ≡ None) → Answers tells state disk disk_now session (with_kept session known cursors) result steps tasks
+queried tells state disk disk_now session known cursors loads idle result steps tasks turn lawful can queries kept turns idles is none =
     let reads = queries.loading.loaded.reads in
     let agrees_now : Agrees tells (state disk_now) session.store = agrees_read tells (load_sizes loads) (state disk) (state disk_now) session.store lawful can.agrees reads in
-    answers_by tells state disk disk_now session (with_mark session ends cursors) result (λ m. turned_by m (turn m.state m.cursors)) steps (λ m. None) tasks (λ m. sym (is m)) (λ m. sym (none m)) (record {
+    answers_by tells state disk disk_now session (with_kept session known cursors) result (λ m. turned_by m (turn m.state m.cursors)) steps (λ m. None) tasks (λ m. sym (is m)) (λ m. sym (none m)) (record {
       from = λ m tell agrees.
           let one : Turns (turn m.state m.cursors) cursors result = turns m.state m.cursors tell (agrees.stands tell) agrees.cursors in
           let before : (c : List ℕ) → (state disk).images c → StandsForEither m.state m.state c = λ c here. inl (images_stand tells (state disk) m.state lawful agrees.store.settled agrees.stands c here) in
@@ -96,9 +96,9 @@ queried tells state disk disk_now session ends cursors loads idle result steps t
             speaks = if_so result (MaySpeakOf m.state (state disk_now).content) (subst (MaySpeakOf m.state) (sym (reads.content tell)) speaks);
             images = leaves_by tells (state disk) (state disk_now) (MaySpeakOfEither m.state m.state) Same lawful reads.images before (λ x z here same. subst (MaySpeakOfEither m.state m.state) (sym same) (before x here));
           };
-      can = if_so result (CanAnswer tells (state disk_now) (with_mark session ends cursors)) (record { sound = can.sound; agrees = agrees_now; mark = queries.loading.mark; limit = omega (arith, can.limit, reads.costs.limit) });
-      unchanged = ok_both result (λ reply. IsRefusal reply → (disk_now ≡ disk) × (ends ≡ session.ends)) (λ reply. IsRefusal reply → cursors ≡ session.cursors) _
-          (λ reply same same_cursors refusal. ((same refusal).0, ap (λ (e : Ends). with_mark session e cursors) (same refusal).1 ∙ ap (with_mark session session.ends) (same_cursors refusal))) queries.refused kept;
+      can = if_so result (CanAnswer tells (state disk_now) (with_kept session known cursors)) (record { sound = can.sound; agrees = agrees_now; known = queries.loading.known; limit = omega (arith, can.limit, reads.costs.limit) });
+      unchanged = ok_both result (λ reply. IsRefusal reply → (disk_now ≡ disk) × (known ≡ session.kept)) (λ reply. IsRefusal reply → cursors ≡ session.cursors) _
+          (λ reply same same_cursors refusal. ((same refusal).0, ap (λ (e : KeptLists). with_kept session e cursors) (same refusal).1 ∙ ap (with_kept session session.kept) (same_cursors refusal))) queries.refused kept;
       only = only_so result queries.loading.loaded.only;
       full = λ need gap tell failed. absurd (not_full result need gap queries.loading.loaded.only failed);
       still = λ place tell failed. reads.content tell;

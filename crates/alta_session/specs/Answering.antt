@@ -5,7 +5,7 @@ use Rattle.alta_codec.specs.Faults.{Rose}
 use Rattle.alta_disk.specs.Disk.{DiskState, LeavesOnly}
 use Rattle.alta_session.specs.Agreement.{AgreesOn, HasNotFailed}
 use Rattle.alta_session.specs.Fullness.{IsFull}
-use Rattle.alta_replies.specs.Loading.{MarkHolds}
+use Rattle.alta_replies.specs.Loading.{KeptHolds}
 use Rattle.alta_machine.specs.declared.document.State.{State}
 use Rattle.alta_machine.specs.Machine.{Machine, IsRefusal}
 use Rattle.alta_session.specs.Tasks.{IsBy, IsWorked, worked_where}
@@ -18,12 +18,12 @@ use Rattle.alta_meaning.specs.Work.{Task}
 use Rattle.alta_store.specs.declared.fault.StoreFault.{StoreFault}
 use Rattle.alta_store.specs.declared.fault.StoreFault.TheVariants.{Disk, Memory, Damaged, Full}
 
--- A line may be answered: no call of the session has failed, its store agrees with its disk, the mark of the lists of all ends holds,
--- and the disk may be as long as the smallest index.
+-- A line may be answered: no call of the session has failed, its store agrees with its disk, what is known of tested lists
+-- holds, and the disk may be as long as the smallest index.
 pub record CanAnswer (tells : Type 0) (disk : DiskState) (session : Session) : Type 0 where
   pub sound : HasNotFailed session
   pub agrees : Agrees tells disk session.store
-  pub mark : MarkHolds tells disk session.store session.ends
+  pub known : KeptHolds tells disk session.store session.kept
   pub limit : HEAD_BYTES ≤ disk.limit
 
 -- A call answered by this step from a machine: with its reply, on the machine after it, and at each moment with images of the

@@ -25,7 +25,7 @@ ghost use Rattle.alta_meaning.specs.Work.{flushes, merges, steps};
 
 use alta_codec::{Text, name_ok};
 use alta_disk::Disk;
-use alta_loading::Ends;
+use alta_loading::KeptLists;
 use alta_machine::LineFault;
 use alta_model::{Line, read_line};
 use alta_replies::{close, count, dump, explain, fetch, open, rank, search, text};
@@ -37,9 +37,10 @@ use std::alloc::Global;
 /// An open index that answers command lines, and the cursors that are open over it.
 #[derive(Drop)]
 pub struct Session {
+    // What searches have learnt of the lists of the levels since the index last changed. It stands first: the heap takes back a long
+    // list at less cost before the many short pieces of the store.
+    kept: KeptLists,
     store: Store,
-    // Whether a search has tested the lists of all ends of the levels since the index last changed.
-    ends: Ends,
     cursors: Cursors,
     sound: bool,
 }
@@ -62,7 +63,7 @@ impl Session {
         match Store::open(alloc, disk) {
             Ok(store) => Ok(Session {
                 store,
-                ends: Ends::Untested,
+                kept: KeptLists::new(alloc),
                 cursors: Cursors::new(alloc),
                 sound: true,
             }),
@@ -148,27 +149,27 @@ impl Session {
         match asked {
             Line::Add { name, title, body } => self.add(alloc, disk, name, title, body),
             Line::Delete { name } => self.delete(alloc, disk, name),
-            Line::Search { text } => search(alloc, disk, &self.store, &mut self.ends, text),
-            Line::Count { text } => count(alloc, disk, &self.store, &mut self.ends, text),
+            Line::Search { text } => search(alloc, disk, &self.store, &mut self.kept, text),
+            Line::Count { text } => count(alloc, disk, &self.store, &mut self.kept, text),
             Line::Explain { text } => explain(alloc, text),
             Line::OpenCursor { text } => open(
                 alloc,
                 disk,
                 &self.store,
-                &mut self.ends,
+                &mut self.kept,
                 &mut self.cursors,
                 text,
             ),
             Line::Fetch { cursor, count } => fetch(alloc, &mut self.cursors, cursor, count),
             Line::Close { cursor } => close(alloc, &mut self.cursors, cursor),
             Line::Top { count, text } => {
-                rank(alloc, disk, &self.store, &mut self.ends, count, text)
+                rank(alloc, disk, &self.store, &mut self.kept, count, text)
             }
             Line::Flush => self.flush(alloc, disk),
             Line::Merge => self.merge(alloc, disk),
             Line::Step { count } => self.step(alloc, disk, count),
             Line::Stats => stats(alloc, self.store.counts()),
-            Line::Dump => dump(alloc, disk, &self.store, &mut self.ends),
+            Line::Dump => dump(alloc, disk, &self.store, &mut self.kept),
         }
     }
 
@@ -191,7 +192,7 @@ impl Session {
         }
         match self.store.add(disk, name, title, body) {
             Ok(number) => {
-                self.ends = Ends::Untested;
+                self.kept.forget();
                 added(alloc, number)
             }
             Err(fault) => match fault {
@@ -219,7 +220,7 @@ impl Session {
     {
         match self.store.replace(disk, name, title, body) {
             Ok(numbers) => {
-                self.ends = Ends::Untested;
+                self.kept.forget();
                 replaced(alloc, numbers)
             }
             Err(fault) => match fault {
@@ -245,7 +246,7 @@ impl Session {
         }
         match self.store.delete(disk, name) {
             Ok(number) => {
-                self.ends = Ends::Untested;
+                self.kept.forget();
                 deleted(alloc, number)
             }
             Err(fault) => match fault {
@@ -263,7 +264,7 @@ impl Session {
     {
         match self.store.flush(disk) {
             Ok(()) => {
-                self.ends = Ends::Untested;
+                self.kept.forget();
                 text(alloc, "ok\n")
             }
             Err(fault) => Err(fault),
@@ -278,7 +279,7 @@ impl Session {
     {
         match self.store.merge(disk) {
             Ok(()) => {
-                self.ends = Ends::Untested;
+                self.kept.forget();
                 text(alloc, "ok\n")
             }
             Err(fault) => Err(fault),
@@ -293,7 +294,7 @@ impl Session {
     {
         match self.store.step(disk, n) {
             Ok(()) => {
-                self.ends = Ends::Untested;
+                self.kept.forget();
                 text(alloc, "ok\n")
             }
             Err(fault) => Err(fault),

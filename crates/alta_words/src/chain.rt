@@ -5,7 +5,7 @@ ghost use Rattle.alta_codec.specs.Rising.{IsRising, first_from, pred_of, count_f
 ghost use Rattle.alta_codec.specs.declared.location.TheConstants.{TOP};
 ghost use Rattle.alta_words.specs.Chain.{IsChain, chain_place};
 ghost use Rattle.alta_words.specs.Leaf.{leaf_list, leaf_place, IsSoundLeaf};
-ghost use Rattle.alta_words.specs.Leaves.{leaves_of, MovesAtMostOne};
+ghost use Rattle.alta_words.specs.Leaves.{GoesOn, MovesAtMostOne, leaves_of};
 
 use crate::leaf::Leaf;
 use alta_codec::{Loc, Steps, TOP};
@@ -62,14 +62,7 @@ fn go_far<L: Ledger>(leaves: &mut [Leaf<'_>], at: usize, to: Loc, steps: &mut St
     requires chain { IsChain (map leaf_list leaves.old) (map leaf_place leaves.old) at }
     requires above { slice_index_or (map leaf_place leaves.old) at TOP < to }
     requires top { to ≤ TOP }
-    ensures sound { All IsSoundLeaf leaves.new }
-    ensures lists { map leaf_list leaves.new ≡ map leaf_list leaves.old }
-    ensures chain { IsChain (map leaf_list leaves.old) (map leaf_place leaves.new) result }
-    ensures place { slice_index_or (map leaf_place leaves.new) result TOP ≡ first_from (concat (map leaf_list leaves.old)) to }
-    ensures falls { count_from (concat (map leaf_list leaves.old)) (slice_index_or (map leaf_place leaves.new) result TOP)
-        < count_from (concat (map leaf_list leaves.old)) (slice_index_or (map leaf_place leaves.old) at TOP) }
-    ensures moved { MovesAtMostOne leaves.old leaves.new }
-    ensures one { steps.new ≤ steps.old + 1 }
+    ensures { GoesOn leaves.old leaves.new at to result steps.old steps.new }
 {
     let next = leaf_from(leaves, at, to);
     if next == leaves.len() {
@@ -90,14 +83,7 @@ fn go<L: Ledger>(leaves: &mut [Leaf<'_>], at: usize, to: Loc, steps: &mut Steps<
     requires chain { IsChain (map leaf_list leaves.old) (map leaf_place leaves.old) at }
     requires above { slice_index_or (map leaf_place leaves.old) at TOP < to }
     requires top { to ≤ TOP }
-    ensures sound { All IsSoundLeaf leaves.new }
-    ensures lists { map leaf_list leaves.new ≡ map leaf_list leaves.old }
-    ensures chain { IsChain (map leaf_list leaves.old) (map leaf_place leaves.new) result }
-    ensures place { slice_index_or (map leaf_place leaves.new) result TOP ≡ first_from (concat (map leaf_list leaves.old)) to }
-    ensures falls { count_from (concat (map leaf_list leaves.old)) (slice_index_or (map leaf_place leaves.new) result TOP)
-        < count_from (concat (map leaf_list leaves.old)) (slice_index_or (map leaf_place leaves.old) at TOP) }
-    ensures moved { MovesAtMostOne leaves.old leaves.new }
-    ensures one { steps.new ≤ steps.old + 1 }
+    ensures { GoesOn leaves.old leaves.new at to result steps.old steps.new }
 {
     if last_at(leaves, at) >= to {
         seek_leaf(leaves, at, to, steps);

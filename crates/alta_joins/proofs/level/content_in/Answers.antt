@@ -10,13 +10,13 @@ returns-clause-kept c =
     let level : Tables = c.args.level.now in
     let content : Content = record { documents = c.from_vec.result; lists = c.in-Ok.lists } in
     let rows : content.documents ≡ level.documents = c.from_vec.ensures ∙ c.in_ok-documents.ensures ∙ c.deref.ensures ∙ c.rows.ensures.rows in
-    let lists = subst (λ (place : ℕ). AreListsOf level.documents level.terms c.args.bytes.now place c.in-Ok.lists) c.requires.place c.in-Ok.ensures.found in
-    content_kept level c.args.bytes.now content c.rows.ensures.kept c.requires.long rows lists
+    let lists = subst (λ (place : ℕ). AreListsOf level.documents level.terms c.args.bytes.items place c.in-Ok.lists) c.requires.place c.in-Ok.ensures.found in
+    content_kept level c.args.bytes.items content c.rows.ensures.kept c.requires.long rows lists
 
 pub returns-clause-segment : goal.returns-clause-segment
 returns-clause-segment c =
     let level : Tables = c.args.level.now in
     let content : Content = record { documents = c.from_vec.result; lists = c.in-Ok.lists } in
     let rows : content.documents ≡ level.documents = c.from_vec.ensures ∙ c.in_ok-documents.ensures ∙ c.deref.ensures ∙ c.rows.ensures.rows in
-    let lists = subst (λ (place : ℕ). AreListsOf level.documents level.terms c.args.bytes.now place c.in-Ok.lists) c.requires.place c.in-Ok.ensures.found in
-    content_segment level c.args.bytes.now content c.rows.ensures.kept c.requires.long rows lists
+    let lists = subst (λ (place : ℕ). AreListsOf level.documents level.terms c.args.bytes.items place c.in-Ok.lists) c.requires.place c.in-Ok.ensures.found in
+    content_segment level c.args.bytes.items content c.rows.ensures.kept c.requires.long rows lists

@@ -1,4 +1,5 @@
-use Rattle.std.proofs.Common.{◌≡◌, ◌+◌, ◌<◌, ◌≤◌, ℕ, List, [], ◌∷◌, ◌++◌, drop, length, refl, sym, subst, ap, ◌∙◌, arith}
+use Rattle.std.proofs.Common.{◌≡◌, ◌+◌, ◌<◌, ◌≤◌, ℕ, List, [], ◌∷◌, ◌++◌, drop, length, refl, sym, subst, ap, ◌∙◌, arith, length-drop}
+use Rattle.std.proofs.lemmas.List.{drop-drop}
 use Rattle.alta_codec.specs.declared.extent.Extent.{Extent}
 use Rattle.alta_content.specs.TermList.{TermList}
 use Rattle.alta_level.specs.Damage.{IsFaultInLists, stored_at}
@@ -7,69 +8,111 @@ use Rattle.alta_level.proofs.Progress.{Progress, ends_read, faulty, fits, goes_o
 use Rattle.alta_table.specs.Tables.{Tables}
 use Rattle.alta_table.specs.Terms.{data_of}
 use Rattle.alta_table.specs.declared.term.TermRow.{TermRow}
+use Rattle.alta_joins.specs.Contents.{list_at}
 use Rattle.alta_joins.proofs.FaultLaws.{fault_goes}
 use Rattle.alta_joins.proofs.RowSteps.{cursor_row, drop-all, next_row, row_of}
 use Rattle.alta_joins.proofs.level.lists_in.Goals as goal
 
-abbrev with_term : List ℕ → List ℕ → TermList
-with_term term locations = record { term = term; locations = locations }
+-- the list of the next row stands in front of the bytes that are left
+next_here : (level : Tables) (bytes : List ℕ) (place : ℕ) (read : List TermList) (i front : ℕ) (all rest : List ℕ) (at : ℕ) → rest ≡ drop front all
+    → Progress level.documents level.terms bytes place read (drop i level.terms) (drop front all) at → i < length level.terms
+    → Progress level.documents level.terms bytes place read (row_of level.terms i ∷ drop (i + 1) level.terms) rest at
+next_here level bytes place read i front all rest at here h some =
+    next_row level.documents level.terms bytes place read i rest at (subst (λ (b : List ℕ). Progress level.documents level.terms bytes place read (drop i level.terms) b at) (sym here) h) some
 
 pub put_row-requires-clause-whole : goal.put_row-requires-clause-whole
 put_row-requires-clause-whole c =
-    let level : Tables = c.args.level.now in let i = c.loop-row.row in let read = c.loop-row.lists in let rest = c.loop-row.rest.now in let at = c.loop-row.at in
-    let row = cursor_row c.loop-row.cursor level i c.loop-row.invariant.tables (c.loop-row.invariant.here (omega arith)) in
-    subst (λ (r : TermRow). r.stream + r.summary ≤ length rest) (sym row)
-    (fits level.documents level.terms c.args.bytes.now c.args.place read (row_of level.terms i) (drop (i + 1) level.terms) rest at
-    (next_row level.documents level.terms c.args.bytes.now c.args.place read i rest at c.loop-row.invariant.read (omega arith)))
+    let level : Tables = c.args.level.now in let i = c.loop-row.row in let read = c.loop-row.lists in let at = c.loop-row.at in let rest = c.split_at.result.1.now in
+    let some : i < length level.terms = omega arith in
+    let row : TermRow = row_of level.terms i in
+    let behind : List TermRow = drop (i + 1) level.terms in
+    let here = c.split_at.ensures.back ∙ ap (λ (b : List ℕ). drop c.loop-row.front b) c.deref.ensures.value in
+    let next = next_here level c.args.bytes.items c.args.place read i c.loop-row.front c.loop-row.rest.items rest at here c.loop-row.invariant.read some in
+    let same = cursor_row c.loop-row.cursor level i c.loop-row.invariant.tables (c.loop-row.invariant.here some) in
+    let long = fits level.documents level.terms c.args.bytes.items c.args.place read row behind rest at next in
+    subst (λ (r : TermRow). r.stream + r.summary ≤ length rest) (sym same) long
+
+pub put_row-requires-clause-below : goal.put_row-requires-clause-below
+put_row-requires-clause-below c =
+    let level : Tables = c.args.level.now in let i = c.loop-row.row in let read = c.loop-row.lists in let at = c.loop-row.at in let rest = c.split_at.result.1.now in
+    let some : i < length level.terms = omega arith in
+    let row : TermRow = row_of level.terms i in
+    let behind : List TermRow = drop (i + 1) level.terms in
+    let here = c.split_at.ensures.back ∙ ap (λ (b : List ℕ). drop c.loop-row.front b) c.deref.ensures.value in
+    let next = next_here level c.args.bytes.items c.args.place read i c.loop-row.front c.loop-row.rest.items rest at here c.loop-row.invariant.read some in
+    next.below
 
 pub returns-in-Err-clause-first : goal.returns-in-Err-clause-first
 returns-in-Err-clause-first c =
-    let level : Tables = c.args.level.now in let i = c.loop-row.row in let read = c.loop-row.lists in let rest = c.loop-row.rest.now in let at = c.loop-row.at in
-    let row = cursor_row c.loop-row.cursor level i c.loop-row.invariant.tables (c.loop-row.invariant.here (omega arith)) in
-    fault_goes Unit (List TermList) c.in-Err.fault (IsListFault level.documents (stored_at (row_of c.loop-row.cursor.tables.terms c.loop-row.cursor.row) rest at)) (IsFaultInLists level.documents level.terms c.args.bytes.now c.args.place)
-    (λ p f. faulty level.documents level.terms c.args.bytes.now c.args.place read (row_of level.terms i) (drop (i + 1) level.terms) rest at
-    (next_row level.documents level.terms c.args.bytes.now c.args.place read i rest at c.loop-row.invariant.read (omega arith))
-    p (subst (λ (r : TermRow). IsListFault level.documents (stored_at r rest at) p) row f))
+    let level : Tables = c.args.level.now in let i = c.loop-row.row in let read = c.loop-row.lists in let at = c.loop-row.at in let rest = c.split_at.result.1.now in
+    let some : i < length level.terms = omega arith in
+    let row : TermRow = row_of level.terms i in
+    let behind : List TermRow = drop (i + 1) level.terms in
+    let here = c.split_at.ensures.back ∙ ap (λ (b : List ℕ). drop c.loop-row.front b) c.deref.ensures.value in
+    let next = next_here level c.args.bytes.items c.args.place read i c.loop-row.front c.loop-row.rest.items rest at here c.loop-row.invariant.read some in
+    let same = cursor_row c.loop-row.cursor level i c.loop-row.invariant.tables (c.loop-row.invariant.here some) in
+    fault_goes Unit (List TermList) c.in-Err.fault (IsListFault level.documents (stored_at (row_of c.loop-row.cursor.tables.terms c.loop-row.cursor.row) rest at)) (IsFaultInLists level.documents level.terms c.args.bytes.items c.args.place)
+    (λ p f. faulty level.documents level.terms c.args.bytes.items c.args.place read row behind rest at next p (subst (λ (r : TermRow). IsListFault level.documents (stored_at r rest at) p) same f))
     c.in-Err.ensures.first
 
-pub split_at-requires : goal.split_at-requires
-split_at-requires c =
-    let level : Tables = c.args.level.now in let i = c.loop-row.row in let read = c.loop-row.lists in let rest = c.loop-row.rest.now in let at = c.loop-row.at in
-    let row = cursor_row c.loop-row.cursor level i c.loop-row.invariant.tables (c.loop-row.invariant.here (omega arith)) in
-    omega (
-      arith,
-      ap (λ (e : Extent). e.bytes) c.stream_place.ensures.stream,
-      ap (λ (e : Extent). e.bytes) c.stream_place.ensures.summary,
-      ap data_of row,
-      fits level.documents level.terms c.args.bytes.now c.args.place read (row_of level.terms i) (drop (i + 1) level.terms) rest at
-          (next_row level.documents level.terms c.args.bytes.now c.args.place read i rest at c.loop-row.invariant.read (omega arith)),
-    )
+pub give_back-front-requires : goal.give_back-front-requires
+give_back-front-requires c =
+    let level : Tables = c.args.level.now in let i = c.loop-row.row in let read = c.loop-row.lists in let at = c.loop-row.at in let rest = c.split_at.result.1.now in
+    let some : i < length level.terms = omega arith in
+    let row : TermRow = row_of level.terms i in
+    let behind : List TermRow = drop (i + 1) level.terms in
+    let here = c.split_at.ensures.back ∙ ap (λ (b : List ℕ). drop c.loop-row.front b) c.deref.ensures.value in
+    let next = next_here level c.args.bytes.items c.args.place read i c.loop-row.front c.loop-row.rest.items rest at here c.loop-row.invariant.read some in
+    let same = cursor_row c.loop-row.cursor level i c.loop-row.invariant.tables (c.loop-row.invariant.here some) in
+    let len : c.stream_place.result.0.bytes + c.stream_place.result.1.bytes ≡ data_of row = omega (arith, ap (λ (e : Extent). e.bytes) c.stream_place.ensures.stream, ap (λ (e : Extent). e.bytes) c.stream_place.ensures.summary, ap data_of same) in
+    let long = fits level.documents level.terms c.args.bytes.items c.args.place read row behind rest at next in
+    omega (arith, len, long, ap (λ (b : List ℕ). length b) here, length-drop c.loop-row.front c.loop-row.rest.items, c.loop-row.invariant.within)
+
+pub overflow_add-at : goal.overflow_add-at
+overflow_add-at c =
+    let level : Tables = c.args.level.now in let i = c.loop-row.row in let read = c.loop-row.lists in let at = c.loop-row.at in let rest = c.split_at.result.1.now in
+    let some : i < length level.terms = omega arith in
+    let row : TermRow = row_of level.terms i in
+    let behind : List TermRow = drop (i + 1) level.terms in
+    let here = c.split_at.ensures.back ∙ ap (λ (b : List ℕ). drop c.loop-row.front b) c.deref.ensures.value in
+    let next = next_here level c.args.bytes.items c.args.place read i c.loop-row.front c.loop-row.rest.items rest at here c.loop-row.invariant.read some in
+    let same = cursor_row c.loop-row.cursor level i c.loop-row.invariant.tables (c.loop-row.invariant.here some) in
+    let len : c.stream_place.result.0.bytes + c.stream_place.result.1.bytes ≡ data_of row = omega (arith, ap (λ (e : Extent). e.bytes) c.stream_place.ensures.stream, ap (λ (e : Extent). e.bytes) c.stream_place.ensures.summary, ap data_of same) in
+    let long = fits level.documents level.terms c.args.bytes.items c.args.place read row behind rest at next in
+    omega (arith, len, long, next.below)
 
 pub loop-row-preserved : goal.loop-row-preserved
 loop-row-preserved c =
-    let level : Tables = c.args.level.now in let i = c.loop-row.row in let read = c.loop-row.lists in let rest = c.loop-row.rest.now in let at = c.loop-row.at in
+    let level : Tables = c.args.level.now in let i = c.loop-row.row in let read = c.loop-row.lists in let at = c.loop-row.at in let rest = c.split_at.result.1.now in
     let some : i < length level.terms = omega arith in
-    let tables = c.loop-row.invariant.tables in
-    let here = c.loop-row.invariant.here some in
-    let same = cursor_row c.loop-row.cursor level i tables here in
     let row : TermRow = row_of level.terms i in
+    let behind : List TermRow = drop (i + 1) level.terms in
+    let here = c.split_at.ensures.back ∙ ap (λ (b : List ℕ). drop c.loop-row.front b) c.deref.ensures.value in
+    let next = next_here level c.args.bytes.items c.args.place read i c.loop-row.front c.loop-row.rest.items rest at here c.loop-row.invariant.read some in
+    let same = cursor_row c.loop-row.cursor level i c.loop-row.invariant.tables (c.loop-row.invariant.here some) in
     let len : c.stream_place.result.0.bytes + c.stream_place.result.1.bytes ≡ data_of row = omega (arith, ap (λ (e : Extent). e.bytes) c.stream_place.ensures.stream, ap (λ (e : Extent). e.bytes) c.stream_place.ensures.summary, ap data_of same) in
-    let locations = c.put_row.new.locations.items in
-    let put : c.put_row.new.lists ≡ read ++ with_term row.term locations ∷ [] = c.in-Ok.ensures.put ∙ ap (λ (r : TermRow). read ++ with_term r.term locations ∷ []) same in
+    let list : TermList = list_at row rest in
+    let put : c.put_row.new.lists ≡ read ++ list ∷ [] = c.in-Ok.ensures.put ∙ ap (λ (r : TermRow). read ++ list_at r rest ∷ []) same in
+    let left : drop c.give_back-front.result c.give_back-front.new.bytes.items ≡ drop (data_of row) rest =
+    c.give_back-front.ensures.left
+    ∙ ap (λ (k : ℕ). drop (c.loop-row.front + k) c.loop-row.rest.items) len
+    ∙ sym (drop-drop (data_of row) c.loop-row.front c.loop-row.rest.items)
+    ∙ ap (λ (b : List ℕ). drop (data_of row) b) (sym here) in
     record {
       read =
-          goes_on level.documents level.terms c.args.bytes.now c.args.place read row (drop (i + 1) level.terms) rest at
-          (next_row level.documents level.terms c.args.bytes.now c.args.place read i rest at c.loop-row.invariant.read some)
-          (with_term row.term locations) c.put_row.new.lists c.split_at.result.1.now _ refl (subst (λ (r : TermRow). IsListOf level.documents (stored_at r rest at) locations) same c.in-Ok.ensures.found) put
-          (c.split_at.ensures.back ∙ ap (λ (k : ℕ). drop k rest) len) (ap (λ (k : ℕ). at + k) len);
-      tables = c.next.ensures.tables ∙ tables;
+          goes_on level.documents level.terms c.args.bytes.items c.args.place read row behind rest at next
+          list c.put_row.new.lists (drop c.give_back-front.result c.give_back-front.new.bytes.items) _ refl
+          (subst (λ (r : TermRow). IsListOf level.documents (stored_at r rest at) (list_at r rest).locations) same c.in-Ok.ensures.found) put
+          left (ap (λ (k : ℕ). at + k) len);
+      within = c.give_back-front.ensures.within;
+      tables = c.next.ensures.tables ∙ c.loop-row.invariant.tables;
       here = λ more.
-          let size : length c.loop-row.cursor.tables.terms ≡ length level.terms = ap (λ (t : Tables). length t.terms) tables in
-          omega (arith, here, c.next.ensures.row (omega (arith, more, here, size)));
+          let size : length c.loop-row.cursor.tables.terms ≡ length level.terms = ap (λ (t : Tables). length t.terms) c.loop-row.invariant.tables in
+          omega (arith, c.loop-row.invariant.here some, c.next.ensures.row (omega (arith, more, c.loop-row.invariant.here some, size)));
     }
 
 pub returns-clause-found : goal.returns-clause-found
 returns-clause-found c =
-    let level : Tables = c.args.level.now in let i = c.loop-row.row in let read = c.loop-row.lists in let rest = c.loop-row.rest.now in let at = c.loop-row.at in
-    ends_read level.documents level.terms c.args.bytes.now c.args.place read rest at
-    (subst (λ (left : List TermRow). Progress level.documents level.terms c.args.bytes.now c.args.place read left rest at) (drop-all i level.terms (omega arith)) c.loop-row.invariant.read)
+    let level : Tables = c.args.level.now in let i = c.loop-row.row in let rest = drop c.loop-row.front c.loop-row.rest.items in
+    ends_read level.documents level.terms c.args.bytes.items c.args.place c.loop-row.lists rest c.loop-row.at
+    (subst (λ (left : List TermRow). Progress level.documents level.terms c.args.bytes.items c.args.place c.loop-row.lists left rest c.loop-row.at) (drop-all i level.terms (omega arith)) c.loop-row.invariant.read)

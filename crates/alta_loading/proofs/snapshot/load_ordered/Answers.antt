@@ -88,11 +88,15 @@ returns-in-Err-clause-loads g c =
     (once_loaded order c.into_vec.result.items (used order) (c.into_vec.ensures ∙ c.into_parts-tests.ensures.tests) c.into_parts-tests.ensures.order refl)
     (loads_fault {X = Vec TestLists Global} {Y = Snapshot} g.D.Disk.tells (loads_of_tests levels newest c.into_vec.result.items) old new c.in-Err.fault c.in-Err.ensures.loads)
 
-pub returns-in_ok-gone-in-Ok-clause-ends : goal.returns-in_ok-gone-in-Ok-clause-ends
-returns-in_ok-gone-in-Ok-clause-ends g c = λ told.
+pub returns-in_ok-gone-in-Ok-clause-known : goal.returns-in_ok-gone-in-Ok-clause-known
+returns-in_ok-gone-in-Ok-clause-known g c =
     let levels = c.args.levels.now in let newest = c.args.newest.now.content in let image = (g.D.Disk.state c.args.disk.now).content in
-    mark_right image levels newest c.as_slice.result.now c.args.ends.now c.marked-mark.result c.marked-mark.ensures.only (c.requires.ends told)
-    (subst (λ (ts : List Test). All (IsWhole image) (loads_of_tests levels newest ts)) (c.into_vec.ensures ∙ sym c.as_slice.ensures) (c.in-Ok.ensures.loads.told told).whole)
+    record {
+      ends = λ told.
+          mark_right image levels newest c.as_slice.result.now c.args.kept.now.ends c.marked-mark.result c.marked-mark.ensures.only (c.requires.known.ends told)
+          (subst (λ (ts : List Test). All (IsWhole image) (loads_of_tests levels newest ts)) (c.into_vec.ensures ∙ sym c.as_slice.ensures) (c.in-Ok.ensures.loads.told told).whole);
+      lists = λ number level at. c.load_tests.ensures.known.lists number level at;
+    }
 
 pub returns-in_ok-gone-in-Ok-clause-tested : goal.returns-in_ok-gone-in-Ok-clause-tested
 returns-in_ok-gone-in-Ok-clause-tested g c = λ more is.

@@ -1,5 +1,7 @@
-use Rattle.std.proofs.Common.{List, [], ◌∷◌, ℕ, ◌+◌, ◌++◌, take, drop, Vec, Global, map, sym, subst, ap, ◌∙◌}
+use Rattle.std.proofs.Common.{refl, List, [], ◌∷◌, ℕ, ◌+◌, ◌++◌, take, drop, Vec, Global, map, sym, subst, ap, ◌∙◌}
 use Rattle.std.proofs.lemmas.List.Elements.{All-get_or}
+use Rattle.std.proofs.lemmas.Option.{slice_get_read}
+use Rattle.alta_loading.proofs.KeptLaws.{kept_next}
 use Rattle.alta_loading.proofs.RowNear.{near_at}
 use Rattle.alta_loading.proofs.Runs.{Run, loads_more, loads_split, run_ended, run_on}
 use Rattle.alta_loading.proofs.TestedEnds.{one_tested}
@@ -19,9 +21,12 @@ load_next-requires-clause-within g c = λ told.
 
 pub load_next-requires-clause-ends : goal.load_next-requires-clause-ends
 load_next-requires-clause-ends g c = λ told.
-    let x = c.index-levels-number.result in let i = c.loop-number.number in
-    subst (λ (s : List ℕ). AreEndsWhole c.args.ends s (x ∷ [])) (sym (c.loop-number.invariant.run.reads.content told))
-    (one_tested c.args.ends (g.D.Disk.state c.args.disk.now).content c.args.levels.now i x c.loop-number-test.true c.index-levels-number.is (c.requires.ends told))
+    one_tested c.loop-number.kept.ends (g.D.Disk.state c.loop-number.disk).content c.args.levels.now c.loop-number.number c.index-levels-number.result c.loop-number-test.true c.index-levels-number.is
+    (c.loop-number.invariant.known.ends told)
+
+pub load_next-requires-clause-tested : goal.load_next-requires-clause-tested
+load_next-requires-clause-tested g c =
+    c.loop-number.invariant.known.lists c.loop-number.number c.index-levels-number.result (slice_get_read c.args.levels.now _ c.loop-number.number c.index-levels-number.result refl c.loop-number-test.true c.index-levels-number.is)
 
 pub loop-number-preserved : goal.loop-number-preserved
 loop-number-preserved g c =
@@ -29,10 +34,13 @@ loop-number-preserved g c =
     let loads = loads_from 0 (take i levels) term in let more = load_in i x term in
     let numbers = map level_in c.load_next.new.lists.items in let lists = map level_list c.load_next.new.lists.items in
     let old = c.args.disk.now in let new = c.load_next.new.disk in
+    let known =
+    kept_next g.D.Disk.tells (g.D.Disk.state c.loop-number.disk).content (g.D.Disk.state c.load_next.new.disk).content c.args.levels.now c.loop-number.number c.index-levels-number.result c.loop-number.kept c.load_next.new.kept
+    c.load_next.ensures.loads.retrieves.reads.content c.loop-number-test.true c.index-levels-number.is c.loop-number.invariant.known c.load_next.ensures.keeps in
     let run = subst (λ (l : List Load). Run g.D.Disk.tells l numbers lists (g.D.Disk.state old) (g.D.Disk.state new)) (sym (loads_more i levels term x c.loop-number-test.true c.index-levels-number.is))
     (run_on g.D.Disk.tells loads (map level_in c.loop-number.lists.items) (map level_list c.loop-number.lists.items) (g.D.Disk.state old) (g.D.Disk.state c.loop-number.disk) c.loop-number.invariant.run
     more (g.D.Disk.state new) c.load_next.ensures.loads.retrieves.reads numbers lists c.in_default.ensures.numbers c.in_default.ensures.lists (λ told. c.in_default.ensures.loads.told told) c.in_default.ensures.kept) in
-    record { run = run; nears = c.load_next.ensures.nears ∙ c.loop-number.invariant.nears }
+    record { run = run; nears = c.load_next.ensures.nears ∙ c.loop-number.invariant.nears; known = known }
 
 pub returns-in-Err-clause-loads : goal.returns-in-Err-clause-loads
 returns-in-Err-clause-loads g c =
@@ -52,3 +60,8 @@ returns-in-Err-clause-nears g c = c.load_next.ensures.nears ∙ c.loop-number.in
 
 pub returns-clause-nears : goal.returns-clause-nears
 returns-clause-nears g c = c.loop-number.invariant.nears
+
+pub returns-in-Err-clause-known : goal.returns-in-Err-clause-known
+returns-in-Err-clause-known g c =
+    kept_next g.D.Disk.tells (g.D.Disk.state c.loop-number.disk).content (g.D.Disk.state c.load_next.new.disk).content c.args.levels.now c.loop-number.number c.index-levels-number.result c.loop-number.kept c.load_next.new.kept
+    c.load_next.ensures.loads.retrieves.reads.content c.loop-number-test.true c.index-levels-number.is c.loop-number.invariant.known c.load_next.ensures.keeps

@@ -4,10 +4,11 @@ use Rattle.std.proofs.lemmas.List.{length-take}
 use Rattle.alta_disk.specs.Calls.{Retrieves}
 use Rattle.alta_loading.specs.Lists.{stream_size, summary_size}
 use Rattle.alta_loading.specs.Loads.{Load, load_sizes, stored_by}
-use Rattle.alta_loading.proofs.Runs.{reads_most, reads_none, retrieves_fault, tells_list}
+use Rattle.alta_loading.proofs.Runs.{loads_value, reads_most, reads_none}
 use Rattle.alta_loading.proofs.TestedEnds.{tells_whole}
 use Rattle.alta_search.specs.declared.lists.LevelList.{LevelList}
 use Rattle.alta_table.specs.Places.{stream_place}
+use Rattle.alta_loading.proofs.KeptLaws.{has_tested}
 use Rattle.alta_loading.proofs.term.load_row.Goals as goal
 
 pub returns-then-is_tested-clause-loads : goal.returns-then-is_tested-clause-loads
@@ -27,15 +28,9 @@ returns-then-is_tested-clause-loads g c = record {
       tells_whole image load c.in_ok-list.list short (c.is_tested.ensures.ends c.if-is_tested.true image (c.requires.ends told)).whole;
 }
 
-pub returns-in-Err-clause-loads : goal.returns-in-Err-clause-loads
-returns-in-Err-clause-loads g c = record {
-  retrieves =
-      let bytes : ℕ = stream_size c.args.level.now c.args.row + summary_size c.args.level.now c.args.row in
-      let old = g.D.Disk.state c.args.disk.now in let new = g.D.Disk.state c.load_list.new.disk in
-      let same : bytes ≡ 0 + bytes = omega arith in
-      subst (λ (n : ℕ). Retrieves {X = LevelList} g.D.Disk.tells n old new (Err c.in-Err.fault)) same
-      (retrieves_fault g.D.Disk.tells bytes old new c.in-Err.fault c.in-Err.ensures.retrieves);
-  told = λ told.
-      tells_list (g.D.Disk.state c.args.disk.now).content (record { number = c.args.number; level = c.args.level.now; row = c.args.row }) c.in-Err.fault
-      (c.in-Err.ensures.first told) (c.in-Err.ensures.only told) (c.in-Err.ensures.damaged told);
-}
+pub returns-in_ok-clone-in-Some-clause-loads : goal.returns-in_ok-clone-in-Some-clause-loads
+returns-in_ok-clone-in-Some-clause-loads g c =
+    let load : Load = record { number = c.args.number; level = c.args.level.now; row = c.args.row } in
+    let old = g.D.Disk.state c.args.disk.now in
+    let tested = has_tested g.D.Disk.tells old.content c.args.number c.args.row c.args.level.now c.in-Some.posting.now.value c.args.kept.now c.requires.tested c.in-Some.ensures in
+    loads_value {X = Unit {0}} {Y = LevelList} g.D.Disk.tells (load ∷ []) old old tt _ (reads_most g.D.Disk.tells 0 (load_sizes (load ∷ [])) old old (omega arith) (reads_none g.D.Disk.tells old)) tested.told

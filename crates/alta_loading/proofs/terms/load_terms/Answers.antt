@@ -29,6 +29,7 @@ loop-term-preserved g c =
     let long : length c.load_term.new.nears ≡ c.loop-term.nears.len = omega (arith, ap length same_nears, c.loop-term.nears.ok.0) in
     record {
       nears = subst (AreNear levels) (sym (take_at c.load_term.new.nears _ _ long ∙ same_nears)) inv.nears;
+      known = c.load_term.ensures.known;
       split = front-more (λ (t : TermLists). t.term) xs ys l pushed term left rest c.args.terms.items here same inv.split;
       run = terms_on g.D.Disk.tells levels newest done (map key_of xs) (map term_lists xs) (g.D.Disk.state c.args.disk.now) (g.D.Disk.state c.loop-term.disk) inv.run term (g.D.Disk.state c.load_term.new.disk) c.load_term.ensures.loads.retrieves.reads
           (map key_of ys) (map term_lists ys) (map (λ (t : TermLists). t.term) ys) (key_of l) (term_lists l) now (ap (map key_of) pushed ∙ map_push key_of xs l) (ap (map term_lists) pushed ∙ map_push term_lists xs l)

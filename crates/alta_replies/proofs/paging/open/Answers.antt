@@ -12,7 +12,7 @@ returns-clause-turned g c = λ s all tell stands h.
 pub returns-clause-queries : goal.returns-clause-queries
 returns-clause-queries g c =
     let is = parsed c.parse.result c.in-Ok.query c.args.text.now c.in-Ok.is c.parse.ensures.reading in
-    queries_opened g.D.Disk.tells g.D.Disk.state c.args.disk.now c.open_query-reply.new.disk c.args.store.now c.args.ends.now c.open_query-reply.new.ends c.args.cursors.now c.args.text.now (shape c.in-Ok.query) c.open_query-reply.result is c.open_query-reply.ensures.queries
+    queries_opened g.D.Disk.tells g.D.Disk.state c.args.disk.now c.open_query-reply.new.disk c.args.store.now c.args.kept.now c.open_query-reply.new.kept c.args.cursors.now c.args.text.now (shape c.in-Ok.query) c.open_query-reply.result is c.open_query-reply.ensures.queries
 
 pub returns-in-Err-clause-turned : goal.returns-in-Err-clause-turned
 returns-in-Err-clause-turned g c = λ s all tell stands h.
@@ -21,6 +21,6 @@ returns-in-Err-clause-turned g c = λ s all tell stands h.
 
 pub returns-in-Err-clause-queries : goal.returns-in-Err-clause-queries
 returns-in-Err-clause-queries g c =
-    queries_idle g.D.Disk.tells g.D.Disk.state c.args.disk.now c.args.store.now c.args.ends.now _ _ c.refused.result c.requires.mark c.refused.ensures.reply.memory
+    queries_idle g.D.Disk.tells g.D.Disk.state c.args.disk.now c.args.store.now c.args.kept.now _ _ c.refused.result c.requires.known c.refused.ensures.reply.memory
     (open_none_loads c.args.store.now c.args.cursors.now c.args.text.now c.refused.result
     (none_loaded c.args.store.now c.args.text.now c.in-Err.fault c.refused.result (not_parsed c.parse.result c.in-Err.fault c.args.text.now c.in-Err.is c.parse.ensures.reading) c.refused.ensures.wanting))

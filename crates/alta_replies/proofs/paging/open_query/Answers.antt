@@ -31,7 +31,7 @@ pub returns-in-Ok-clause-queries : goal.returns-in-Ok-clause-queries
 returns-in-Ok-clause-queries g c =
     let loads = search_loads c.args.store.now (plan_of (shape c.args.query.now)) in
     let free : CURSORS ≤ length c.args.cursors.now → ⊥ = λ full. false≢true (sym c.if-is_full.false ∙ c.is_full.ensures.full.1 full) in
-    queries_found g.D.Disk.tells g.D.Disk.state c.args.disk.now c.put_cursor.new.disk c.args.store.now c.args.ends.now c.put_cursor.new.ends loads _ (CURSORS ≤ length c.args.cursors.now) c.numbered.result
+    queries_found g.D.Disk.tells g.D.Disk.state c.args.disk.now c.put_cursor.new.disk c.args.store.now c.args.kept.now c.put_cursor.new.kept loads _ (CURSORS ≤ length c.args.cursors.now) c.numbered.result
     (loads_are (length c.args.cursors.now) loads free) free
-    (queries_loaded g.D.Disk.tells g.D.Disk.state c.args.disk.now c.put_cursor.new.disk c.args.store.now c.args.ends.now c.put_cursor.new.ends loads c.in-Ok.number c.numbered.result c.in-Ok.ensures.loads c.numbered.ensures.memory
+    (queries_loaded g.D.Disk.tells g.D.Disk.state c.args.disk.now c.put_cursor.new.disk c.args.store.now c.args.kept.now c.put_cursor.new.kept loads c.in-Ok.number c.numbered.result c.in-Ok.ensures.loads c.numbered.ensures.memory
     (no_cursor_refuses c.in-Ok.number c.numbered.result c.numbered.ensures.reply))

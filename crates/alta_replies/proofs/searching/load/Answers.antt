@@ -1,6 +1,7 @@
 use Rattle.std.proofs.Common.{List, ℕ, sym, subst, rules}
 use Rattle.alta_machine.specs.PlanOf.{plan_of}
-use Rattle.alta_loading.specs.Tested.{AreEndsWhole}
+use Rattle.alta_loading.proofs.KeptLaws.{kept_moved}
+use Rattle.alta_loading.specs.Kept.{AreKept}
 use Rattle.alta_machine.specs.declared.document.Document.{Document}
 use Rattle.alta_machine.specs.Deciding.{answers}
 use Rattle.alta_search.specs.Documents.{AreToCome}
@@ -9,6 +10,7 @@ use Rattle.alta_search.specs.Tops.{AreToRank}
 use Rattle.alta_replies.proofs.LoadingLaws.{outside_of}
 use Rattle.alta_store.specs.Agreement.{levels_of}
 use Rattle.alta_store.specs.Answers.{IsOutside}
+use Rattle.alta_table.specs.Tables.{Tables}
 use Rattle.alta_replies.proofs.searching.load.Goals as goal
 
 pub returns-in-Ok-load_ordered-clause-answers : goal.returns-in-Ok-load_ordered-clause-answers
@@ -29,17 +31,18 @@ returns-in-Ok-load_ordered-clause-shown g c = λ s tell stands.
     subst (λ (l : List Document). ShowsDocuments c.in-Ok-load_ordered.snapshot l) (sym finds.documents)
     (c.in-Ok-load_ordered.ensures.shown tell finds.contents finds.behind finds.tables finds.segments finds.has)
 
-pub load_ordered-requires-clause-ends : goal.load_ordered-requires-clause-ends
-load_ordered-requires-clause-ends g c = λ told.
-    subst (AreEndsWhole c.args.ends.now (g.D.Disk.state c.args.disk.now).content) (sym c.in-Ok.ensures.levels_are) (c.requires.mark told)
+pub load_ordered-requires-clause-known : goal.load_ordered-requires-clause-known
+load_ordered-requires-clause-known g c =
+    subst (λ (levels : List Tables). AreKept g.D.Disk.tells (g.D.Disk.state c.args.disk.now).content levels c.args.kept.now) (sym c.in-Ok.ensures.levels_are) c.requires.known
 
 pub returns-in-Ok-load_ordered-clause-loads : goal.returns-in-Ok-load_ordered-clause-loads
 returns-in-Ok-load_ordered-clause-loads g c = record {
   loaded = search rules;
   undamaged = λ s tell stands. tt;
-  mark = λ told.
-      subst (λ (image : List ℕ). AreEndsWhole c.load_ordered.new.ends image (levels_of c.args.store.now)) (sym (c.load_ordered.ensures.loads.retrieves.reads.content told))
-      (subst (AreEndsWhole c.load_ordered.new.ends (g.D.Disk.state c.args.disk.now).content) c.in-Ok.ensures.levels_are (c.load_ordered.ensures.ends told));
+  known =
+      kept_moved g.D.Disk.tells (g.D.Disk.state c.args.disk.now).content (g.D.Disk.state c.load_ordered.new.disk).content (λ told. sym (c.load_ordered.ensures.loads.retrieves.reads.content told)) (levels_of c.args.store.now)
+      c.load_ordered.new.kept
+      (subst (λ (levels : List Tables). AreKept g.D.Disk.tells (g.D.Disk.state c.args.disk.now).content levels c.load_ordered.new.kept) c.in-Ok.ensures.levels_are c.load_ordered.ensures.known);
 }
 
 pub returns-in-Err-clause-loads : goal.returns-in-Err-clause-loads
@@ -48,7 +51,8 @@ returns-in-Err-clause-loads g c = record {
   undamaged = λ s tell stands.
       let finds = c.a_search_sees_the_state.ensures.finds c.args.disk.now c.args.store.now c.requires.agrees s tell stands _ _ _ _ c.in-Ok.ensures in
       subst IsOutside (sym c.load_fault.ensures) (outside_of c.load_ordered.result c.in-Err.fault c.in-Err.is (c.load_ordered.ensures.undamaged tell finds.contents finds.tables finds.segments));
-  mark = λ told.
-      subst (λ (image : List ℕ). AreEndsWhole c.load_ordered.new.ends image (levels_of c.args.store.now)) (sym (c.load_ordered.ensures.loads.retrieves.reads.content told))
-      (subst (AreEndsWhole c.load_ordered.new.ends (g.D.Disk.state c.args.disk.now).content) c.in-Ok.ensures.levels_are (c.load_ordered.ensures.ends told));
+  known =
+      kept_moved g.D.Disk.tells (g.D.Disk.state c.args.disk.now).content (g.D.Disk.state c.load_ordered.new.disk).content (λ told. sym (c.load_ordered.ensures.loads.retrieves.reads.content told)) (levels_of c.args.store.now)
+      c.load_ordered.new.kept
+      (subst (λ (levels : List Tables). AreKept g.D.Disk.tells (g.D.Disk.state c.args.disk.now).content levels c.load_ordered.new.kept) c.in-Ok.ensures.levels_are c.load_ordered.ensures.known);
 }

@@ -16,7 +16,7 @@ returns-clause-reply g c = λ s tell stands.
 pub returns-clause-queries : goal.returns-clause-queries
 returns-clause-queries g c =
     let is = parsed c.parse.result c.in-Ok.query c.args.text.now c.in-Ok.is c.parse.ensures.reading in
-    queries_found g.D.Disk.tells g.D.Disk.state c.args.disk.now c.search_and_rank-reply.new.disk c.args.store.now c.args.ends.now c.search_and_rank-reply.new.ends (top_loads c.args.store.now (plan_of (shape c.in-Ok.query))) (top_text_loads c.args.store.now c.args.text.now) (IsNoQuery c.args.text.now) c.search_and_rank-reply.result
+    queries_found g.D.Disk.tells g.D.Disk.state c.args.disk.now c.search_and_rank-reply.new.disk c.args.store.now c.args.kept.now c.search_and_rank-reply.new.kept (top_loads c.args.store.now (plan_of (shape c.in-Ok.query))) (top_text_loads c.args.store.now c.args.text.now) (IsNoQuery c.args.text.now) c.search_and_rank-reply.result
     (top_found c.args.store.now c.args.text.now (shape c.in-Ok.query) is) (is_query c.args.text.now (shape c.in-Ok.query) is) c.search_and_rank-reply.ensures.queries
 
 pub returns-in-Err-clause-reply : goal.returns-in-Err-clause-reply
@@ -25,5 +25,5 @@ returns-in-Err-clause-reply g c = λ s tell stands.
 
 pub returns-in-Err-clause-queries : goal.returns-in-Err-clause-queries
 returns-in-Err-clause-queries g c =
-    queries_idle g.D.Disk.tells g.D.Disk.state c.args.disk.now c.args.store.now c.args.ends.now (top_text_loads c.args.store.now c.args.text.now) (IsNoQuery c.args.text.now) c.refused.result c.requires.mark c.refused.ensures.reply.memory
+    queries_idle g.D.Disk.tells g.D.Disk.state c.args.disk.now c.args.store.now c.args.kept.now (top_text_loads c.args.store.now c.args.text.now) (IsNoQuery c.args.text.now) c.refused.result c.requires.known c.refused.ensures.reply.memory
     (none_ranked c.args.store.now c.args.text.now c.in-Err.fault c.refused.result (not_parsed c.parse.result c.in-Err.fault c.args.text.now c.in-Err.is c.parse.ensures.reading) c.refused.ensures.wanting)

@@ -18,9 +18,9 @@ returns-in-Ok-clause-reply g c = λ s tell stands.
 
 pub returns-in-Ok-clause-queries : goal.returns-in-Ok-clause-queries
 returns-in-Ok-clause-queries g c =
-    queries_loaded g.D.Disk.tells g.D.Disk.state c.args.disk.now c.plan_and_load.new.disk c.args.store.now c.args.ends.now c.plan_and_load.new.ends (search_loads c.args.store.now (plan_of (shape c.args.query.now))) _ c.written-reply.result c.in-Ok.ensures.loads c.written-reply.ensures.memory
+    queries_loaded g.D.Disk.tells g.D.Disk.state c.args.disk.now c.plan_and_load.new.disk c.args.store.now c.args.kept.now c.plan_and_load.new.kept (search_loads c.args.store.now (plan_of (shape c.args.query.now))) _ c.written-reply.result c.in-Ok.ensures.loads c.written-reply.ensures.memory
     (other_written c.written-reply.result c.all_listed.result c.written-reply.ensures.reply c.all_listed.ensures.other)
 
 pub returns-in-Err-clause-queries : goal.returns-in-Err-clause-queries
 returns-in-Err-clause-queries g c =
-    queries_failed g.D.Disk.tells g.D.Disk.state c.args.disk.now c.plan_and_load.new.disk c.args.store.now c.args.ends.now c.plan_and_load.new.ends (search_loads c.args.store.now (plan_of (shape c.args.query.now))) c.in-Err.fault c.in-Err.ensures.loads
+    queries_failed g.D.Disk.tells g.D.Disk.state c.args.disk.now c.plan_and_load.new.disk c.args.store.now c.args.kept.now c.plan_and_load.new.kept (search_loads c.args.store.now (plan_of (shape c.args.query.now))) c.in-Err.fault c.in-Err.ensures.loads

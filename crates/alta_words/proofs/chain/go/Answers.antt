@@ -29,14 +29,17 @@ here g c =
     moved (map leaf_list c.args.leaves.now) (map leaf_place c.args.leaves.now) c.args.at c.args.to c.requires.chain c.requires.above c.requires.top
     (omega (arith, c.if-last_at-to.true, c.last_at.ensures)) (map leaf_place c.seek_leaf.new.leaves) c.seek_leaf.ensures.places
 
-pub returns-then-last_at-to-clause-chain : goal.returns-then-last_at-to-clause-chain
-returns-then-last_at-to-clause-chain g c = (here g (goal.at.returns-then-last_at-to-clause-chain g c).After-seek_leaf).0
-
-pub returns-then-last_at-to-clause-place : goal.returns-then-last_at-to-clause-place
-returns-then-last_at-to-clause-place g c = (here g (goal.at.returns-then-last_at-to-clause-place g c).After-seek_leaf).1
-
-pub returns-then-last_at-to-clause-falls : goal.returns-then-last_at-to-clause-falls
-returns-then-last_at-to-clause-falls g c =
+pub returns-then-last_at-to : goal.returns-then-last_at-to
+returns-then-last_at-to g c =
     let ls = map leaf_list c.args.leaves.now in let hs = map leaf_place c.args.leaves.now in
-    chain_falls ls ls (get_or hs c.args.at TOP) (get_or (map leaf_place c.seek_leaf.new.leaves) c.args.at TOP) c.args.to (chain_place ls hs c.args.at c.requires.chain)
-    (λ z. (λ m. m, λ m. m)) c.requires.above c.requires.top (returns-then-last_at-to-clause-place g c)
+    let went = here g (goal.at.returns-then-last_at-to g c).After-seek_leaf in
+    record {
+      sound = c.seek_leaf.ensures.sound;
+      lists = c.seek_leaf.ensures.lists;
+      chain = went.0;
+      place = went.1;
+      falls = chain_falls ls ls (get_or hs c.args.at TOP) (get_or (map leaf_place c.seek_leaf.new.leaves) c.args.at TOP) c.args.to (chain_place ls hs c.args.at c.requires.chain)
+          (λ z. (λ m. m, λ m. m)) c.requires.above c.requires.top went.1;
+      moved = c.seek_leaf.ensures.moved;
+      one = omega (arith, c.seek_leaf.ensures.one);
+    }

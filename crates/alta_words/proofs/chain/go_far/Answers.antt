@@ -60,34 +60,44 @@ moved g c new w e =
     (ap (λ xs. get_or xs next 0) e ∙ get_or-set_same hs next y 0 (omega (arith, length-map c.args.leaves.now leaf_place, w)))
     (λ k n. ap (λ xs. get_or xs k 0) e ∙ get_or-set_other hs next k y 0 n)
 
-pub returns-then-next-leaves-clause-place : goal.returns-then-next-leaves-clause-place
-returns-then-next-leaves-clause-place g c = (ends g (goal.at.returns-then-next-leaves-clause-place g c).After-leaf_from-next (omega arith)).1
+pub returns-then-next-leaves : goal.returns-then-next-leaves
+returns-then-next-leaves g c =
+    let after = (goal.at.returns-then-next-leaves g c).After-leaf_from-next in
+    let went = ends g after (omega arith) in
+    record {
+      sound = c.requires.sound;
+      lists = refl;
+      chain = went.0;
+      place = went.1;
+      falls = fell g after _ went.1;
+      moved = record { sized = refl; which = 0; others = λ k d n. refl };
+      one = omega arith;
+    }
 
-pub returns-then-next-leaves-clause-falls : goal.returns-then-next-leaves-clause-falls
-returns-then-next-leaves-clause-falls g c = fell g (goal.at.returns-then-next-leaves-clause-falls g c).After-leaf_from-next _ (returns-then-next-leaves-clause-place g c)
+pub returns-then-here-to : goal.returns-then-here-to
+returns-then-here-to g c =
+    let after = (goal.at.returns-then-here-to g c).After-leaf_from-next in
+    let went = there g after (omega arith) (omega (arith, c.place_at-here.ensures.value)) in
+    record {
+      sound = c.requires.sound;
+      lists = refl;
+      chain = went.0;
+      place = went.1;
+      falls = fell g after _ went.1;
+      moved = record { sized = refl; which = 0; others = λ k d n. refl };
+      one = omega arith;
+    }
 
-pub returns-then-next-leaves-clause-moved : goal.returns-then-next-leaves-clause-moved
-returns-then-next-leaves-clause-moved g c = record { sized = refl; which = 0; others = λ k d n. refl }
-
-pub returns-then-here-to-clause-chain : goal.returns-then-here-to-clause-chain
-returns-then-here-to-clause-chain g c =
-    (there g (goal.at.returns-then-here-to-clause-chain g c).After-leaf_from-next (omega arith) (omega (arith, c.place_at-here.ensures.value))).0
-
-pub returns-then-here-to-clause-place : goal.returns-then-here-to-clause-place
-returns-then-here-to-clause-place g c =
-    (there g (goal.at.returns-then-here-to-clause-place g c).After-leaf_from-next (omega arith) (omega (arith, c.place_at-here.ensures.value))).1
-
-pub returns-then-here-to-clause-falls : goal.returns-then-here-to-clause-falls
-returns-then-here-to-clause-falls g c = fell g (goal.at.returns-then-here-to-clause-falls g c).After-leaf_from-next _ (returns-then-here-to-clause-place g c)
-
-pub returns-then-here-to-clause-moved : goal.returns-then-here-to-clause-moved
-returns-then-here-to-clause-moved g c = record { sized = refl; which = 0; others = λ k d n. refl }
-
-pub returns-clause-chain : goal.returns-clause-chain
-returns-clause-chain g c = (moved g (goal.at.returns-clause-chain g c).After-leaf_from-next _ (omega arith) c.seek_leaf.ensures.places).0
-
-pub returns-clause-place : goal.returns-clause-place
-returns-clause-place g c = (moved g (goal.at.returns-clause-place g c).After-leaf_from-next _ (omega arith) c.seek_leaf.ensures.places).1
-
-pub returns-clause-falls : goal.returns-clause-falls
-returns-clause-falls g c = fell g (goal.at.returns-clause-falls g c).After-leaf_from-next _ (returns-clause-place g c)
+pub returns : goal.returns
+returns g c =
+    let after = (goal.at.returns g c).After-leaf_from-next in
+    let went = moved g after _ (omega arith) c.seek_leaf.ensures.places in
+    record {
+      sound = c.seek_leaf.ensures.sound;
+      lists = c.seek_leaf.ensures.lists;
+      chain = went.0;
+      place = went.1;
+      falls = fell g after _ went.1;
+      moved = c.seek_leaf.ensures.moved;
+      one = omega (arith, c.seek_leaf.ensures.one);
+    }

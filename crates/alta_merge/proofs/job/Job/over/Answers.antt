@@ -42,9 +42,9 @@ returns-clause-whole c =
     ∙ ap (λ s. filter (λ (r : DocRow). not (is_within s r.first)) c.in_ok-parts.parts.rows.items) (c.deref-2.ensures.value ∙ spans)
     ∙ ap (filter (λ (r : DocRow). not (is_within (deleted_spans dead rows) r.first))) c.in_ok-parts.ensures.rows
     ∙ rows_outside dead rows (rows_rise rows c.requires.documents) in
-    let f : List DocRow → Content = λ x. record { documents = x; lists = c.made_with.result ++ lists_outside (c.in_ok-spans.spans.items) (gathered c.in_ok-parts.parts.rests.items) } in
+    let f : List DocRow → Content = λ x. record { documents = x; lists = c.in_ok-with_room.field-0 ++ lists_outside (c.in_ok-spans.spans.items) (gathered c.in_ok-parts.parts.rests.items) } in
     let g : List TermList → Content = λ x. record { documents = live_rows dead rows; lists = x } in
     ap f documents
-    ∙ ap g (ap (λ l. l ++ lists_outside (c.in_ok-spans.spans.items) (gathered c.in_ok-parts.parts.rests.items)) c.made_with.ensures
+    ∙ ap g (ap (λ l. l ++ lists_outside (c.in_ok-spans.spans.items) (gathered c.in_ok-parts.parts.rests.items)) c.in_ok-with_room.ensures
     ∙ ap (λ s. lists_outside s (gathered c.in_ok-parts.parts.rests.items)) spans
     ∙ ap (λ p. lists_outside (deleted_spans dead rows) (gathered p)) c.in_ok-parts.ensures.rests)

@@ -1,5 +1,6 @@
 use Rattle.std.proofs.Common.{refl, ◌≡◌, ◌≤◌, ℕ, true, false, List, ◌++◌, inl, inr, ap, sym, subst, ◌∙◌, codes, decimal, Err, rules, arith}
 use Rattle.alta_disk.specs.Disk.{LeavesOnly}
+use Rattle.alta_loading.proofs.KeptLaws.{none_kept}
 use Rattle.alta_meaning.specs.Standing.{StandsFor, StandsForEither}
 use Rattle.alta_machine.specs.Changes.{with_added, has_name}
 use Rattle.alta_meaning.specs.Work.{enters}
@@ -35,7 +36,7 @@ returns-in-Ok-clause-answers g c =
     (record {
       sound = (c.requires.can.sound.0, c.in-Ok.ensures.obeys.sound ∙ c.requires.can.sound.1);
       agrees = c.in-Ok.ensures.obeys.agrees;
-      mark = λ told. tt;
+      known = none_kept g.D.Disk.tells _ _ _ c.forget.ensures;
       limit = omega (arith, c.requires.can.limit, c.add.ensures.obeys.costs.limit);
     }) c.add.ensures.obeys.costs.faults c.add.ensures.obeys.costs.limit
     (λ m tell agrees.

@@ -1,6 +1,7 @@
 use Rattle.std.proofs.Common.{refl, ◌≡◌, ℕ, false, List, ap, sym, subst, ◌∙◌, Err, rules, arith}
 use Rattle.std.specs.Prelude.{Some}
 use Rattle.alta_disk.specs.Disk.{LeavesOnly}
+use Rattle.alta_loading.proofs.KeptLaws.{none_kept}
 use Rattle.alta_meaning.specs.Standing.{StandsFor, StandsForEither}
 use Rattle.alta_machine.specs.Changes.{has_name, with_deleted, number_of}
 use Rattle.alta_meaning.specs.Work.{enters}
@@ -37,7 +38,7 @@ returns-in-Ok-clause-answers g c =
     (record {
       sound = (c.requires.sound.0, obeys.sound ∙ c.requires.sound.1);
       agrees = obeys.agrees;
-      mark = λ told. tt;
+      known = none_kept g.D.Disk.tells _ _ _ c.forget.ensures;
       limit = omega (arith, c.requires.limit, obeys.costs.limit);
     }) obeys.costs.faults obeys.costs.limit
     (λ m tell agrees.

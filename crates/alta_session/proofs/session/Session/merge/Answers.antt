@@ -1,5 +1,6 @@
 use Rattle.std.proofs.Common.{refl, ◌≡◌, ◌∙◌, ap, codes, Err, arith}
 use Rattle.std.specs.Prelude.{Some}
+use Rattle.alta_loading.proofs.KeptLaws.{none_kept}
 use Rattle.alta_meaning.specs.Work.{merges}
 use Rattle.alta_machine.specs.declared.document.State.{State}
 use Rattle.alta_machine.specs.Machine.{IsRefusal}
@@ -25,7 +26,7 @@ returns-in-Ok-clause-answers g c =
     (record {
       sound = (c.requires.sound.0, obeys.sound ∙ c.requires.sound.1);
       agrees = obeys.agrees;
-      mark = λ told. tt;
+      known = none_kept g.D.Disk.tells _ _ _ c.forget.ensures;
       limit = omega (arith, c.requires.limit, obeys.costs.limit);
     }) obeys.costs.faults obeys.costs.limit
     (λ m tell agrees. record {

@@ -1,6 +1,7 @@
 use Rattle.std.proofs.Common.{refl, ◌≡◌, ◌≤◌, ℕ, true, List, ◌++◌, inr, ap, sym, subst, ◌∙◌, codes, decimal, Err, arith}
 use Rattle.std.proofs.lemmas.Bool.{false≢true}
 use Rattle.alta_disk.specs.Disk.{LeavesOnly}
+use Rattle.alta_loading.proofs.KeptLaws.{none_kept}
 use Rattle.alta_meaning.specs.Standing.{StandsFor, StandsForEither}
 use Rattle.alta_machine.specs.Changes.{has_name, with_replaced}
 use Rattle.alta_meaning.specs.Work.{enters}
@@ -33,7 +34,7 @@ returns-in-Ok-clause-answers g c =
     (record {
       sound = (c.requires.can.sound.0, obeys.sound ∙ c.requires.can.sound.1);
       agrees = obeys.agrees;
-      mark = λ told. tt;
+      known = none_kept g.D.Disk.tells _ _ _ c.forget.ensures;
       limit = omega (arith, c.requires.can.limit, obeys.costs.limit);
     }) obeys.costs.faults obeys.costs.limit
     (λ m tell agrees.

@@ -84,23 +84,23 @@ returns-in-Step-clause-no_disk g c = λ looks. absurd (subst LooksIn (reading_is
 
 -- a query is answered over the disk
 pub search-requires : goal.search-requires
-search-requires g c = record { agrees = c.requires.can.agrees; mark = c.requires.can.mark }
+search-requires g c = record { agrees = c.requires.can.agrees; known = c.requires.can.known }
 
 pub count-requires : goal.count-requires
-count-requires g c = record { agrees = c.requires.can.agrees; mark = c.requires.can.mark }
+count-requires g c = record { agrees = c.requires.can.agrees; known = c.requires.can.known }
 
 pub open-requires : goal.open-requires
-open-requires g c = record { agrees = c.requires.can.agrees; mark = c.requires.can.mark }
+open-requires g c = record { agrees = c.requires.can.agrees; known = c.requires.can.known }
 
 pub rank-requires : goal.rank-requires
-rank-requires g c = record { agrees = c.requires.can.agrees; mark = c.requires.can.mark }
+rank-requires g c = record { agrees = c.requires.can.agrees; known = c.requires.can.known }
 
 pub dump-requires : goal.dump-requires
-dump-requires g c = record { agrees = c.requires.can.agrees; mark = c.requires.can.mark }
+dump-requires g c = record { agrees = c.requires.can.agrees; known = c.requires.can.known }
 
 pub returns-in-Search-clause-answers : goal.returns-in-Search-clause-answers
 returns-in-Search-clause-answers g c =
-    queried g.D.Disk.tells g.D.Disk.state c.args.disk.now c.search.new.disk c.args.self.now c.search.new.ends c.args.self.now.cursors (text_loads c.args.self.now.store c.in-Search.text.now) (IsNoQuery c.in-Search.text.now) c.search.result (λ m. step m c.args.line.now) (λ m. task_of m c.args.line.now)
+    queried g.D.Disk.tells g.D.Disk.state c.args.disk.now c.search.new.disk c.args.self.now c.search.new.kept c.args.self.now.cursors (text_loads c.args.self.now.store c.in-Search.text.now) (IsNoQuery c.in-Search.text.now) c.search.result (λ m. step m c.args.line.now) (λ m. task_of m c.args.line.now)
     (λ s all. (all, searching c.in-Search.text.now s.documents)) (g.met.D.Disk.lawful c.args.disk.now) c.requires.can c.search.ensures.queries
     (kept_all c.search.result c.args.self.now.cursors) (λ s all tell stands are. record { reply = c.search.ensures.reply s tell stands; open_now = if_so c.search.result (AreOpen c.args.self.now.cursors all) are })
     (λ s all are refusal. search_refuses c.in-Search.text.now s.documents refusal) (step_asks c.args.line.now c.in-Ok.asked (Search c.in-Search.text) c.in-Ok.ensures.reading c.in-Search.is) (λ m. task_reads m c.args.line.now (asks (searches c.in-Search.text.now)) (reading_is c.args.line.now c.in-Ok.asked (Search c.in-Search.text) c.in-Ok.ensures.reading c.in-Search.is))
@@ -114,7 +114,7 @@ returns-in-Search-clause-loads g c = λ searches.
 
 pub returns-in-Count-clause-answers : goal.returns-in-Count-clause-answers
 returns-in-Count-clause-answers g c =
-    queried g.D.Disk.tells g.D.Disk.state c.args.disk.now c.count.new.disk c.args.self.now c.count.new.ends c.args.self.now.cursors (text_loads c.args.self.now.store c.in-Count.text.now) (IsNoQuery c.in-Count.text.now) c.count.result (λ m. step m c.args.line.now) (λ m. task_of m c.args.line.now)
+    queried g.D.Disk.tells g.D.Disk.state c.args.disk.now c.count.new.disk c.args.self.now c.count.new.kept c.args.self.now.cursors (text_loads c.args.self.now.store c.in-Count.text.now) (IsNoQuery c.in-Count.text.now) c.count.result (λ m. step m c.args.line.now) (λ m. task_of m c.args.line.now)
     (λ s all. (all, counting c.in-Count.text.now s.documents)) (g.met.D.Disk.lawful c.args.disk.now) c.requires.can c.count.ensures.queries
     (kept_all c.count.result c.args.self.now.cursors) (λ s all tell stands are. record { reply = c.count.ensures.reply s tell stands; open_now = if_so c.count.result (AreOpen c.args.self.now.cursors all) are })
     (λ s all are refusal. count_refuses c.in-Count.text.now s.documents refusal) (step_asks c.args.line.now c.in-Ok.asked (Count c.in-Count.text) c.in-Ok.ensures.reading c.in-Count.is) (λ m. task_reads m c.args.line.now (asks (asks_count c.in-Count.text.now)) (reading_is c.args.line.now c.in-Ok.asked (Count c.in-Count.text) c.in-Ok.ensures.reading c.in-Count.is))
@@ -128,7 +128,7 @@ returns-in-Count-clause-loads g c = λ searches.
 
 pub returns-in-Top-clause-answers : goal.returns-in-Top-clause-answers
 returns-in-Top-clause-answers g c =
-    queried g.D.Disk.tells g.D.Disk.state c.args.disk.now c.rank.new.disk c.args.self.now c.rank.new.ends c.args.self.now.cursors (top_text_loads c.args.self.now.store c.in-Top.text.now) (IsNoQuery c.in-Top.text.now) c.rank.result (λ m. step m c.args.line.now) (λ m. task_of m c.args.line.now)
+    queried g.D.Disk.tells g.D.Disk.state c.args.disk.now c.rank.new.disk c.args.self.now c.rank.new.kept c.args.self.now.cursors (top_text_loads c.args.self.now.store c.in-Top.text.now) (IsNoQuery c.in-Top.text.now) c.rank.result (λ m. step m c.args.line.now) (λ m. task_of m c.args.line.now)
     (λ s all. (all, ranking c.in-Top.count c.in-Top.text.now s.documents)) (g.met.D.Disk.lawful c.args.disk.now) c.requires.can c.rank.ensures.queries
     (kept_all c.rank.result c.args.self.now.cursors) (λ s all tell stands are. record { reply = c.rank.ensures.reply s tell stands; open_now = if_so c.rank.result (AreOpen c.args.self.now.cursors all) are })
     (λ s all are refusal. rank_refuses c.in-Top.count c.in-Top.text.now s.documents refusal) (step_asks c.args.line.now c.in-Ok.asked (Top c.in-Top.count c.in-Top.text) c.in-Ok.ensures.reading c.in-Top.is) (λ m. task_reads m c.args.line.now (asks (ranks c.in-Top.count c.in-Top.text.now)) (reading_is c.args.line.now c.in-Ok.asked (Top c.in-Top.count c.in-Top.text) c.in-Ok.ensures.reading c.in-Top.is))
@@ -142,7 +142,7 @@ returns-in-Top-clause-loads g c = λ searches.
 
 pub returns-in-Dump-clause-answers : goal.returns-in-Dump-clause-answers
 returns-in-Dump-clause-answers g c =
-    queried g.D.Disk.tells g.D.Disk.state c.args.disk.now c.dump.new.disk c.args.self.now c.dump.new.ends c.args.self.now.cursors (order_loads c.args.self.now.store dump_tests) ⊥ c.dump.result (λ m. step m c.args.line.now) (λ m. task_of m c.args.line.now)
+    queried g.D.Disk.tells g.D.Disk.state c.args.disk.now c.dump.new.disk c.args.self.now c.dump.new.kept c.args.self.now.cursors (order_loads c.args.self.now.store dump_tests) ⊥ c.dump.result (λ m. step m c.args.line.now) (λ m. task_of m c.args.line.now)
     (λ s all. (all, dump_of s)) (g.met.D.Disk.lawful c.args.disk.now) c.requires.can c.dump.ensures.queries
     (kept_all c.dump.result c.args.self.now.cursors) (λ s all tell stands are. record { reply = c.dump.ensures.reply s tell stands; open_now = if_so c.dump.result (AreOpen c.args.self.now.cursors all) are })
     (λ s all are refusal. dump_refuses s.documents refusal) (step_asks c.args.line.now c.in-Ok.asked Dump c.in-Ok.ensures.reading c.in-Dump.is) (λ m. task_reads m c.args.line.now (asks dumps) (reading_is c.args.line.now c.in-Ok.asked Dump c.in-Ok.ensures.reading c.in-Dump.is))
@@ -159,7 +159,7 @@ pub returns-in-OpenCursor-clause-answers : goal.returns-in-OpenCursor-clause-ans
 returns-in-OpenCursor-clause-answers g c =
     let session = c.args.self.now in
     let text = c.in-OpenCursor.text.now in
-    queried g.D.Disk.tells g.D.Disk.state c.args.disk.now c.open.new.disk session c.open.new.ends c.open.new.cursors (open_loads session.store session.cursors text) (IsNoQuery text ⊎ (CURSORS ≤ length session.cursors)) c.open.result
+    queried g.D.Disk.tells g.D.Disk.state c.args.disk.now c.open.new.disk session c.open.new.kept c.open.new.cursors (open_loads session.store session.cursors text) (IsNoQuery text ⊎ (CURSORS ≤ length session.cursors)) c.open.result
     (λ m. step m c.args.line.now) (λ m. task_of m c.args.line.now) (λ s all. opening text s.documents all) (g.met.D.Disk.lawful c.args.disk.now) c.requires.can c.open.ensures.queries c.open.ensures.kept c.open.ensures.turned
     (λ s all are refusal. open_refuses text s.documents session.cursors all are refusal) (step_asks c.args.line.now c.in-Ok.asked (OpenCursor c.in-OpenCursor.text) c.in-Ok.ensures.reading c.in-OpenCursor.is) (λ m. task_reads m c.args.line.now (asks (opens c.in-OpenCursor.text.now)) (reading_is c.args.line.now c.in-Ok.asked (OpenCursor c.in-OpenCursor.text) c.in-Ok.ensures.reading c.in-OpenCursor.is))
 

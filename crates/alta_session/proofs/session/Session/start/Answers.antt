@@ -1,17 +1,18 @@
 use Rattle.std.proofs.Common.{refl, subst, sym}
+use Rattle.alta_loading.proofs.KeptLaws.{none_kept}
 use Rattle.alta_meaning.specs.Standing.{StandsFor}
 use Rattle.alta_session.proofs.AgreementLaws.{agrees_started}
 use Rattle.alta_session.proofs.OpeningLaws.{opens_err, opens_ok}
 use Rattle.alta_session.proofs.session.Session.start.Goals as goal
 
 pub returns-in-Ok-clause-agrees : goal.returns-in-Ok-clause-agrees
-returns-in-Ok-clause-agrees g c = λ s stands. agrees_started _ _ _ s c.new.ensures c.in-Ok.ensures.agrees (λ told. subst (StandsFor s) (sym (c.open.ensures.opens.content told)) (stands told))
+returns-in-Ok-clause-agrees g c = λ s stands. agrees_started _ _ _ s c.new-in-Ok.ensures c.in-Ok.ensures.agrees (λ told. subst (StandsFor s) (sym (c.open.ensures.opens.content told)) (stands told))
 
 pub returns-in-Ok-clause-can : goal.returns-in-Ok-clause-can
 returns-in-Ok-clause-can g c = record {
   sound = (refl, c.in-Ok.ensures.sound);
   agrees = c.in-Ok.ensures.agrees;
-  mark = λ told. tt;
+  known = none_kept g.D.Disk.tells _ _ _ c.new.ensures;
   limit = c.in-Ok.ensures.opens.limit;
 }
 

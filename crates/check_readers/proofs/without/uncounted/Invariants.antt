@@ -1,4 +1,0 @@
-use Rattle.check_readers.proofs.without.uncounted.Given as goal
-
-abbrev pub ghosts-row : goal.ghosts-row
-ghosts-row a = record { name = a.blank.name; parts = a.blank.parts }
