@@ -19,10 +19,8 @@ import re
 import subprocess
 import sys
 
-MOST = 75
+MOST = 62
 
-# Refused by the text of a proof alone, and to be made anew: it has to be refused, and shows nothing of its clause.
-OWED = {("alta_gather", "other_place_marked")}
 TRIED = re.compile(r"(?:rt: )?must-fail (\w+)/([\w.-]+)\.edit: (.*)")
 KEPT = re.compile(r"(?:rt: )?\w+: (\d+) of its \d+ must-fail edits were tried by an earlier run on this machine")
 REFUSED = "refused, as it must be"
@@ -73,8 +71,7 @@ def faults_in(lines, edits):
     faults += [f"{crate}/{edit}: not tried" for crate, edit in sorted(edits.keys() - said.keys())]
     for crate, edit in sorted(edits.keys() & said.keys()):
         why = fault_of(said[crate, edit], edits[crate, edit])
-        owed = (crate, edit) in OWED and said[crate, edit].startswith(REFUSED)
-        faults += [f"{crate}/{edit}: {why}"] if why and not owed else []
+        faults += [f"{crate}/{edit}: {why}"] if why else []
     return faults + ([f"{len(edits)} wrong bodies, where {MOST} are the most"] if len(edits) > MOST else [])
 
 
@@ -125,7 +122,7 @@ def main():
     for fault in faults:
         print(f"refusals: {fault}")
     tried, kept = counts_in(lines)
-    print(f"refusals: {len(edits)} wrong bodies, {tried} tried now and {kept} kept from earlier runs, {len(OWED)} owed, {len(faults)} faults")
+    print(f"refusals: {len(edits)} wrong bodies, {tried} tried now and {kept} kept from earlier runs, {len(faults)} faults")
     return 1 if faults else 0
 
 

@@ -2,18 +2,20 @@
 """Reads what `rt ci` says with a clock, and tells what each crate has cost: its proof, its tests, and its must-fail edits.
 
 usage: rt ci 2>&1 | bench/gate.py [--to FILE] [--every SECONDS] [--record FILE]
-       bench/gate.py --log FILE [--pid PID] [--to FILE] [--every SECONDS] [--record FILE]
+       .ci/run >FILE 2>&1 & bench/gate.py --log FILE --pid $! [--to FILE] [--every SECONDS] [--record FILE]
        bench/gate.py --read FILE
 
-Hands the lines on as they come, and writes them to FILE with the seconds of the clock before each, which --read takes. While they
-come it looks at the processes of whoever writes them, as often as said: the processor time of a check is what its process and
-those that it has started were last seen with, and by the clock it lasts from its start until it is seen no more. With --log the
-lines are those of a growing file, up to the gate's last one or until the process that writes them, which --pid names, is no more.
+Hands the lines on as they come, and writes them to FILE with the seconds of the clock before each, which --read takes. With --log the
+lines are those of a growing file. They end with the gate's last one, also where .ci/run goes on, or with the process that --pid names.
+
+While the lines come it looks at processes, as often as said: at those below PID, or below whoever writes into the pipe or FILE. Of a
+pipeline it finds all (`rt ci 2>&1 | tee FILE | bench/gate.py`). The processor time of a check is what its process and those that it has
+started were last seen with, and by the clock it lasts from its start until it is seen no more. The gate begins with its first check.
 
 Prints at the end a line for each crate, the dearest first: processor seconds and minutes by the clock of its proof, its tests and
 its edits, with the minute at which proof and tests stood, and how many edits there are; then the sums, and how long all took. Where the
 processes were not seen, as with --read, there are the minutes alone. With --record the processor seconds of each crate go into a file of
-figures, from which bench/plot.py draws a picture.
+figures, from which bench/plot.py draws a picture; of a gate that did not end, or whose checks were not seen, nothing is recorded.
 """
 
 import argparse
@@ -21,13 +23,14 @@ import os
 import re
 import select
 import signal
+import stat
 import sys
 import time
 from typing import NamedTuple
 
 from recorded import record
 
-PROVED = re.compile(r"rt: (\w+)(: its tests are)? (NOT PROVED|proved|is kept: .*)\n?")
+PROVED = re.compile(r"rt: (\w+)(: its tests are)? (NOT PROVED(?:: .*)?|proved|is kept: .*)\n?")
 TRIES = re.compile(r"rt: (\w+): trying its must-fail edits \((\d+)\)\n?")
 LAST = re.compile(r"[0-9]+ passed, [0-9]+ failed.*\n?")
 CLOCKED = re.compile(r"([0-9]+(?:\.[0-9]+)?) (.*)", re.DOTALL)
@@ -68,41 +71,71 @@ class Said:
 
 
 class Process(NamedTuple):
-    """A process: who started it, the processor seconds of it and of what it has waited for, and when it began."""
+    """A process: who started it, its group, the processor seconds of it and of what it has waited for, and the tick at which it began."""
 
     parent: int
+    group: int
     seconds: float
-    begun: float
+    begun: int
+
+
+def process_of(number):
+    """The process of this number; None where there is none, or where it has ended and is only not waited for."""
+    try:
+        with open(f"/proc/{number}/stat", encoding="utf-8", errors="replace") as file:
+            state, *fields = file.read().rpartition(")")[2].split()
+    except OSError:
+        return None
+    if state in "ZX":
+        return None
+    return Process(int(fields[0]), int(fields[1]), sum(map(int, fields[10:14])) / TICKS, int(fields[18]))
+
+
+def begun_of(number):
+    """The tick at which a process began, which tells it from another of its number; None where there is none."""
+    process = process_of(number)
+    return process and process.begun
 
 
 def processes():
     """All processes by their numbers."""
+    found = {int(name): process_of(name) for name in os.listdir("/proc") if name.isdigit()}
+    return {number: process for number, process in found.items() if process}
+
+
+def booted():
+    """When the machine was started, by the clock."""
     with open("/proc/uptime", encoding="ascii") as file:
-        booted = time.time() - float(file.read().split()[0])
-    found = {}
-    for name in os.listdir("/proc"):
-        if name.isdigit():
-            try:
-                with open(f"/proc/{name}/stat", encoding="utf-8", errors="replace") as file:
-                    fields = file.read().rpartition(")")[2].split()
-            except OSError:
-                continue
-            times = sum(map(int, fields[11:15])) / TICKS
-            found[int(name)] = Process(int(fields[1]), times, booted + int(fields[19]) / TICKS)
-    return found
+        return time.time() - float(file.read().split()[0])
 
 
-def writers_of(file):
-    """The processes that have the other end of this pipe as their output."""
-    wanted, found = os.readlink(f"/proc/self/fd/{file}"), set()
-    for name in os.listdir("/proc"):
-        for output in (1, 2):
-            try:
-                if os.readlink(f"/proc/{name}/fd/{output}") == wanted:
-                    found.add(int(name))
-            except (OSError, ValueError):
-                pass
-    return found
+def streams_of(number):
+    """What the input of a process leads to, and the set of what it has open for writing."""
+    folder, source, outputs = f"/proc/{number}/fd", "", set()
+    try:
+        for name in os.listdir(folder):
+            place, mode = os.readlink(f"{folder}/{name}"), os.lstat(f"{folder}/{name}").st_mode
+            source = place if name == "0" else source
+            outputs |= {place} if mode & stat.S_IWUSR else set()
+    except OSError:
+        pass  # it has ended, or is another user's
+    return source, outputs
+
+
+def writers_of(place, found):
+    """The processes, of those found, that write into this. Where one reads a pipe, those of its group that write it are among them."""
+    streams = {number: streams_of(number) for number in found if number != os.getpid()}
+    writers = {number for number, (_, outputs) in streams.items() if place in outputs}
+    left = list(writers)
+    while left:
+        reader = left.pop()
+        source = streams[reader][0]
+        for number, (_, outputs) in streams.items():
+            is_before = source.startswith("pipe:") and source in outputs and found[number].group == found[reader].group
+            if is_before and number not in writers:
+                writers.add(number)
+                left.append(number)
+    return writers
 
 
 def work_of(number):
@@ -131,31 +164,31 @@ class Check:
 
 
 class Seen:
-    """The checks below some processes, which are looked at now and then."""
+    """The checks below some processes, which are looked at now and then: `roots` tells, of all processes, which these are."""
 
-    def __init__(self, every):
+    def __init__(self, roots, every):
+        self.roots = roots
         self.every = every
         self.checks = {}  # by number and begin, since a number comes again
         self.looked = 0.0
+        self.booted = booted()
 
-    def look(self, roots):
-        """Looks at the processes below these, where it is time."""
+    def look(self):
+        """Looks at the processes, where it is time."""
         now = time.time()
-        if now - self.looked < self.every or not roots:
+        if now - self.looked < self.every:
             return
         self.looked = now
         found = processes()
         children = {}
         for number, process in found.items():
             children.setdefault(process.parent, []).append(number)
-        for root in roots:
-            for number in children.get(root, []):
-                self.look_at(number, found, children, now)
+        for root in self.roots(found):
+            self.look_at(root, found, children, now)
 
     def look_at(self, number, found, children, now):
         """Looks at a process: a check with all below it, or what has started some."""
-        begun = found[number].begun
-        key = number, round(begun)
+        key = number, found[number].begun
         check = self.checks.get(key)
         if check is None:
             work = work_of(number)
@@ -163,9 +196,13 @@ class Seen:
                 for child in children.get(number, []):
                     self.look_at(child, found, children, now)
                 return
-            check = self.checks[key] = Check(work, begun)
+            check = self.checks[key] = Check(work, self.booted + found[number].begun / TICKS)
         check.seconds = max(check.seconds, seconds_below(number, found, children))
         check.seen = now
+
+    def begun(self):
+        """When the first check began; None where none was seen."""
+        return min((check.begun for check in self.checks.values()), default=None)
 
     def costs(self):
         """Of each crate and kind the processor seconds, and the minutes by the clock of its checks."""
@@ -201,12 +238,15 @@ def lines_of(file, look):
 
 
 def lines_that_grow(path, look, pid):
-    """The lines of a file that another process writes, up to the gate's last one, or until that process is no more."""
-    rest = ""
+    """The lines of a file that another process writes, up to the gate's last one, or until that process is no more. It may be there soon."""
+    begun, rest = pid and begun_of(pid), ""
+    ended = lambda: pid and (begun is None or begun_of(pid) != begun)
+    while not os.path.exists(path) and not ended():
+        time.sleep(0.2)
     with open(path, encoding="utf-8", errors="replace") as file:
         while True:
             look()
-            is_over = pid is not None and not os.path.exists(f"/proc/{pid}")
+            is_over = ended()
             part = file.readline()
             rest += part
             if rest.endswith("\n"):
@@ -271,10 +311,10 @@ def record_costs(path, said, costs):
 
 def read_all(options):
     """Takes the lines as they come, and answers what was said and what the checks cost."""
-    said, seen = Said(), Seen(options.every)
-    roots = {options.pid} if options.pid else set() if options.log else writers_of(0)
-    look = lambda: seen.look(roots)
-    lines = lines_that_grow(options.log, look, options.pid) if options.log else lines_of(0, look)
+    place = os.path.realpath(options.log) if options.log else os.readlink("/proc/self/fd/0")
+    roots = lambda found: {options.pid} & found.keys() if options.pid else writers_of(place, found)
+    said, seen = Said(), Seen(roots, options.every)
+    lines = lines_that_grow(options.log, seen.look, options.pid) if options.log else lines_of(0, seen.look)
     to = open(options.to, "w", encoding="utf-8") if options.to else None
     for number in (signal.SIGINT, signal.SIGTERM):
         signal.signal(number, signal.default_int_handler)
@@ -292,6 +332,7 @@ def read_all(options):
     finally:
         if to:
             to.close()
+    said.begun = seen.begun() or said.begun
     return said, seen.costs()
 
 
@@ -312,6 +353,9 @@ def main():
     else:
         said, costs = read_all(options)
         tell(said, costs)
+        if options.record and not (said.last and costs):
+            print("gate: nothing is recorded: " + ("no check was seen" if said.last else "it did not end"), file=sys.stderr)
+            return 1
         if options.record:
             record_costs(options.record, said, costs)
     return 0

@@ -24,7 +24,8 @@ TOP = os.path.dirname(os.path.dirname(os.path.abspath(__file__)))
 sys.path.insert(0, os.path.join(TOP, "client"))
 
 from buncocedar import Index, default_program  # noqa: E402
-from buncocedar.imports.stamps import Stamp, Stamps, stamps_path  # noqa: E402
+from buncocedar.imports.stampfile import stamps_path  # noqa: E402
+from buncocedar.imports.stamps import Stamp, Stamps  # noqa: E402
 
 BUNCO = os.path.join(TOP, "bunco")
 WORD = "fox"

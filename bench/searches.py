@@ -1,84 +1,48 @@
 #!/usr/bin/env python3
-"""Measures counts of queries beside SQLite's full-text index over the same documents, in the same run.
+"""Measures searches by kind beside FTS5, Xapian and Lucene over the same documents, in one run.
 
-usage: bench/searches.py [--program PATH] [--before PATH ..] --lines FILE [--count N] [--repeat N] [--turns N] [--merged] [--levels] [--gaps N] [--top K] [--record FILE]
+usage: bench/searches.py [--program PATH] [--before PATH ..] --lines FILE [--count N] [--gaps N] [--turns N] [--spend MILLISECONDS]
+                         [--kinds WORD ..] [--instructions] [--record FILE]
 
-FILE has `add` lines, as `bunco packages - /var/lib/dpkg/status` writes them. As many of its first N documents as fit in one journal half go
-into a new index of the program and into a new FTS5 table in memory of Python's sqlite3, whose words are cut by its `unicode61`. With
---merged all N go in, and a `merge` behind them makes them one level; then the FTS5 table stands on disk, keeps no texts and is
-optimized; with --gaps every Nth is deleted before that merge, and never was in the table. With --levels the program is also asked over an
-index of its own in which they lie in sixteen levels and the journal. Each query is asked so many times in one run of the program, and as
-often of SQLite; the processor time of a run without it in the same turns is taken off. With --before others are asked too, each over an index of its own, and named in their order; with --turns all
-are asked so often in turn, and the least time counts. Prints the milliseconds a query of each, and what each counts; the counts differ where program and
-SQLite cut words in other ways.
+FILE has `add` lines, as `apt-cache dumpavail | ./bunco packages -` writes them. The first N (all) go into two new indexes of the program: one
+merged, and one as it is loaded, in sixteen levels and the journal; with --gaps every Nth is added and deleted before the merge of the one.
+They also go into an optimized FTS5 table that keeps no texts, and where this machine has it, into a compact database of Xapian
+(`apt-get install python3-xapian`, which is for /usr/bin/python3) and an index of Lucene in one segment (`liblucene8-java` and a JDK).
 
-With --top the best K are asked for in place of counts: `top K` of the program beside its `count`, FTS5's `order by rank limit K`, and the
-first K of Xapian, where its Python module is there, by its default weighting. Neither of these two tells how many there are.
+bench/kinds.py chooses the queries of each kind from the documents; --kinds asks only for those with one of these words in their name. Each
+is asked again and again for so many milliseconds (20), of all in turn, and of these turns (5) the least processor time for one counts. The program
+answers lines in a process that goes on, so its time has reading a line and writing the reply in it, and its lists were read before.
+It writes names where the peers have numbers. For an opening each begins a process anew; the program's start without an index is taken off.
 
-With --record the milliseconds go into a file of figures, from which bench/plot.py draws a picture: with --top of counts and of the best.
+Prints for each query what one answer takes in microseconds, and what each found, which differs where words are cut in other ways. Then comes a
+table in Markdown: of each kind the geometric mean of the program's times, and of the ratios of each peer's times to them. A ratio over 1 is in the
+program's favour. With --before a program is measured in the same turns, and has rows of its own. With --instructions the table has
+the instructions of one answer, too, by Valgrind's callgrind: the lists were read before. With --record the times go into a file
+of figures, from which bench/plot.py draws a picture.
 """
 
 import argparse
-import itertools
+import math
 import os
+import re
+import shutil
 import subprocess
 import sys
 import tempfile
+import threading
 import time
 
-from peer import database_of, query_of, table_of, texts_of, xapian
-from recorded import record
+from kinds import BEST, kinds_of
+from peer import peers_of, texts_of
+from recorded import machine, record
 from rounds import spent
 
-JOURNAL_BYTES = 1_048_576
 MOST_LEVELS = 16
-
-# The same question for the program and for FTS5.
-QUERIES = [
-    ("library", "library"),
-    ("for", "for"),
-    ("chess", "chess"),
-    ("zymurgy", "zymurgy"),
-    ('"shared library"', '"shared library"'),
-    ("python AND library", "python AND library"),
-    ("python NOT library", "python NOT library"),
-    ("chess AND library", "chess AND library"),
-    ("library AND chess", "library AND chess"),
-    ("astronomy AND the", "astronomy AND the"),
-    ("chess AND package", "chess AND package"),
-    ("package AND chess", "package AND chess"),
-    ("the AND files", "the AND files"),
-    ("library AND for", "library AND for"),
-    ("data AND library", "data AND library"),
-    ("library NOT development", "library NOT development"),
-    ("for NOT library", "for NOT library"),
-    ("python OR perl", "python OR perl"),
-    ("data NEAR/5 library", "NEAR(data library, 4)"),
-    ("lib*", "lib*"),
-    ("title:library", "title: library"),
-]
-
-# Those of which a picture is drawn, with their kinds.
-PICTURED = {
-    "library": "a common word",
-    "chess": "a rare word",
-    "python AND library": "both words",
-    "library NOT development": "without one",
-    "python OR perl": "either word",
-    '"shared library"': "a phrase",
-    "data NEAR/5 library": "near words",
-    "lib*": "a prefix",
-    "title:library": "a word in titles",
-}
-
-# A common word, a middle one, a rare one, all of two, one of two, a phrase: the same for all three.
-RANKED = ["for", "python", "chess", "python AND library", "python OR perl", '"shared library"']
-
-
-def fitting(lines):
-    """As many of the lines as one journal half has room for: a record has eight bytes more than its line and newline."""
-    sizes = itertools.accumulate(len(line) + 8 for line in lines)
-    return [line for line, size in zip(lines, sizes) if size < JOURNAL_BYTES]
+MOST_TIMES = 5000
+LINES = {"count": "count", "all": "search", "best": f"top {BEST}", "opening": "count"}
+LAYOUTS = ("merged", "as loaded")
+LAST = re.compile(rb"(?:^|\n)found ([0-9]+)\ndocuments [^\n]*\n$")  # the last line of an answer, and the reply of `stats`
+TOTALS = re.compile(r"^(?:totals|summary): ([0-9]+)", re.MULTILINE)
 
 
 def without(lines, each):
@@ -95,93 +59,171 @@ def in_levels(lines):
     return b"flush\n".join(parts)
 
 
+def mean(values):
+    """The geometric mean."""
+    return math.exp(sum(map(math.log, values)) / len(values))
+
+
 class Program:
-    """A program over its own index, made by these lines, and what its times are printed behind."""
+    """A program that answers lines over an index, and a copy of that index, which no process has open."""
 
-    def __init__(self, path, folder, data, label=""):
-        index = os.path.join(folder, f"{os.path.basename(path)} {len(os.listdir(folder))}")
-        subprocess.run([path, index, "init"], check=True)
-        self.words, self.label = [path, index, "run"], label
-        spent(self.words, data)
+    def __init__(self, path, index, before=()):
+        self.path, self.copy = path, f"{index} copy"
+        shutil.copyfile(index, self.copy)
+        self.process = subprocess.Popen([*before, path, index, "run"], stdin=subprocess.PIPE, stdout=subprocess.PIPE)
 
-    def turn(self, data):
-        """The processor time of this input, and the first line that tells how many were found."""
-        seconds, printed = spent(self.words, data)
-        return seconds, next((line.decode() for line in printed.split(b"\n") if line.startswith(b"found ")), "")
+    def clock(self):
+        """The processor seconds of the process: Linux makes the number of another's clock of its own."""
+        return time.clock_gettime((~self.process.pid) << 3 | 2)
 
+    def feed(self, data):
+        self.process.stdin.write(data)
+        self.process.stdin.flush()
 
-def turn_of_table(base, query, repeat):
-    """The processor time of so many counts by FTS5, and the count."""
-    begun = time.process_time()
-    for _ in range(repeat):
-        (found,) = base.execute("select count(*) from mail where mail match ?", (query,)).fetchone()
-    return time.process_time() - begun, f"found {found}"
+    def answer(self, line, count):
+        """Asks a line so many times, and answers how many documents were found."""
+        feeder = threading.Thread(target=self.feed, args=((line + b"\n") * count + b"stats\n",))
+        feeder.start()
+        last = b""
+        while not (found := LAST.search(last)):
+            last = last[-200:] + os.read(self.process.stdout.fileno(), 1 << 20)
+        feeder.join()
+        return int(found[1])
 
+    def turn(self, order, query, count):
+        """The processor seconds of one of so many answers, and how many documents were found."""
+        line = f"{LINES[order]} {query}".encode()
+        if order == "opening":
+            started = spent([self.path], b"", check=False, stderr=subprocess.DEVNULL)[0]
+            seconds, printed = spent([self.path, self.copy, "run"], line + b"\n")
+            return seconds - started, int(printed.split()[1])
+        begun = self.clock()
+        found = self.answer(line, count)
+        return (self.clock() - begun) / count, found
 
-def turn_of_rank(base, query, repeat, count):
-    """The processor time of so often the first by FTS5, and how many they are."""
-    begun = time.process_time()
-    for _ in range(repeat):
-        rows = base.execute("select rowid from mail where mail match ? order by rank limit ?", (query, count)).fetchall()
-    return time.process_time() - begun, f"{len(rows)} best"
-
-
-def turn_of_database(base, query, repeat, count):
-    """The same by Xapian. Each time the query is read anew."""
-    begun = time.process_time()
-    for _ in range(repeat):
-        rows = [(found.docid, found.weight) for found in query_of(base, query).get_mset(0, count)]
-    return time.process_time() - begun, f"{len(rows)} best"
-
-
-def least_of(turns, calls):
-    """What each of these calls answers, the least of so many turns, in each of which all of them are made."""
-    return [min(column) for column in zip(*[[call() for call in calls] for _ in range(turns)])]
+    def close(self):
+        self.process.communicate()
 
 
-def compared(programs, base, options):
-    """Prints the milliseconds a query of the programs, less an opening in the same turns, and of the table, and what each counts. Answers
-    those of the first program and of the table for the pictured ones."""
-    rows = []
-    for ours, theirs in QUERIES:
-        data = f"count {ours}\n".encode() * options.repeat
-        calls = [lambda one=one, asked=asked: one.turn(asked) for one in programs for asked in (b"", data)]
-        *mine, (peer, counted) = least_of(options.turns, [*calls, lambda: turn_of_table(base, theirs, options.repeat)])
-        shown = []
-        for one, (opening, _), (seconds, found) in zip(programs, mine[::2], mine[1::2]):
-            shown.append(f"{one.label}{(seconds - opening) / options.repeat * 1e3:.3f} ms ({found}), {(seconds - opening) / peer:.2f} of FTS5")
-        print(f"{ours}: " + ", ".join(shown) + f", FTS5 {peer / options.repeat * 1e3:.3f} ms ({counted})", flush=True)
-        if ours in PICTURED:
-            rows.append([f"{PICTURED[ours]}: {ours}", *(seconds / options.repeat * 1e3 for seconds in (mine[1][0] - mine[0][0], peer))])
-    return [{"title": "one count", "kind": "bars", "unit": "ms", "series": ["Buncocedar", "SQLite FTS5"], "rows": rows}]
+class Counted:
+    """A program under callgrind, which tells the instructions since it was asked last."""
+
+    def __init__(self, path, index, folder):
+        self.out = os.path.join(folder, f"callgrind {len(os.listdir(folder))}")
+        self.program = Program(path, index, ("valgrind", "-q", "--tool=callgrind", f"--callgrind-out-file={self.out}"))
+        self.dumps = 0
+        self.program.answer(b"count a", 1)
+        self.opening = self.since()
+
+    def since(self):
+        self.dumps += 1
+        subprocess.run(["callgrind_control", "-d", str(self.program.process.pid)], stdout=subprocess.DEVNULL, stderr=subprocess.DEVNULL, check=True)
+        with open(f"{self.out}.{self.dumps}", encoding="utf-8", errors="replace") as file:
+            return int(TOTALS.search(file.read())[1])
+
+    def instructions(self, order, query):
+        """The instructions of one answer, behind another, and without those of a `stats`."""
+        if order == "opening":
+            return self.opening
+        line = f"{LINES[order]} {query}".encode()
+        counts = []
+        for times in (1, 1, 2):
+            self.program.answer(line, times)
+            counts.append(self.since())
+        return counts[2] - counts[1]
 
 
-def ranked(programs, base, database, options):
-    """Prints the milliseconds of the best answers and of the count by each program, less an opening, and of the best answers by its peers.
-    Answers those of the best answers by the first program and its peers."""
-    rows, peers = [], ["SQLite FTS5", "Xapian"][: 1 + (database is not None)]
-    openings = least_of(max(5, options.turns), [lambda one=one: one.turn(b"") for one in programs])
-    print("opening " + ", ".join(f"{seconds * 1e3:.1f} ms" for seconds, _ in openings))
-    for query in RANKED:
-        calls = []
-        for one in programs:
-            for line in (f"top {options.top} {query}\n", f"count {query}\n"):
-                calls.append(lambda one=one, line=line: one.turn(line.encode() * options.repeat))
-        calls.append(lambda: turn_of_rank(base, query, options.repeat, options.top))
-        if database:
-            calls.append(lambda: turn_of_database(database, query, options.repeat, options.top))
-        times = least_of(options.turns, calls)
-        shown = []
-        for place, (one, (opening, _)) in enumerate(zip(programs, openings)):
-            (best, found), (count, counted) = times[2 * place : 2 * place + 2]
-            best, count = ((seconds - opening) / options.repeat * 1e3 for seconds in (best, count))
-            shown.append(f"{one.label}top {best:.3f} ms ({found}), count {count:.3f} ms ({counted}), {best / count:.2f} of it")
-        for name, (seconds, found) in zip(["FTS5", "Xapian"], times[2 * len(programs) :]):
-            shown.append(f"{name} {seconds / options.repeat * 1e3:.3f} ms ({found})")
-        print(f"{query}: " + "; ".join(shown), flush=True)
-        best = [times[0][0] - openings[0][0], *(seconds for seconds, _ in times[2 * len(programs) :])]
-        rows.append([query, *(seconds / options.repeat * 1e3 for seconds in best)])
-    return [{"title": f"the best {options.top}", "kind": "bars", "unit": "ms", "series": ["Buncocedar", *peers], "rows": rows}]
+def indexes_of(paths, lines, gaps, folder):
+    """The programs over their indexes, by the name of the program and the layout; and the lines of the documents that stand in them."""
+    asked, left = without(lines, gaps)
+    layouts = {"merged": b"".join(asked) + b"merge\n", "as loaded": in_levels(left)}
+    programs = {}
+    for name, path in paths.items():
+        for layout, data in layouts.items():
+            index = os.path.join(folder, f"{name} {layout}")
+            subprocess.run([path, index, "init"], check=True)
+            spent([path, index, "run"], data)
+            programs[name, layout] = Program(path, index)
+    return programs, left
+
+
+def times_of(asked, kind, query, options):
+    """The least time of one answer by each, and what each found."""
+    counts = []
+    for one in asked:
+        one.turn(kind.order, query, 1)
+        seconds, _ = one.turn(kind.order, query, 1)
+        counts.append(max(1, min(MOST_TIMES, round(options.spend / 1e3 / max(seconds, 1e-9)))))
+    turns = [[one.turn(kind.order, query, count) for one, count in zip(asked, counts)] for _ in range(options.turns)]
+    return [min(column) for column in zip(*turns)]
+
+
+def measured(kinds, programs, peers, options):
+    """Prints the times of each query, and answers those of each kind: a list of the seconds of each program, and then of each peer."""
+    names = [f"{name} {layout}" for name, layout in programs] + [peer.name for peer in peers]
+    times = {}
+    for kind in kinds:
+        for query in kind.queries:
+            answers = times_of([*programs.values(), *peers], kind, query, options)
+            shown = (f"{name} {seconds * 1e6:.1f} ({found})" for name, (seconds, found) in zip(names, answers))
+            print(f"{kind.name}: {query}: " + ", ".join(shown), flush=True)
+            times.setdefault(kind.name, []).append([seconds for seconds, _ in answers])
+    return times
+
+
+def counted(kinds, programs, folder):
+    """The instructions of each kind by each program."""
+    instructions = {}
+    for key, program in programs.items():
+        under = Counted(program.path, program.copy, folder)
+        for kind in kinds:
+            instructions[key, kind.name] = mean([max(1, under.instructions(kind.order, query)) for query in kind.queries])
+        under.program.close()
+    return instructions
+
+
+def tell(times, programs, peers, instructions):
+    """Prints the table."""
+    columns = ["µs", *(["instructions"] if instructions else []), *(peer.name for peer in peers)]
+    print("\n| Kind | program | " + " | ".join(f"{layout}: {columns[0]}" + "".join(f" | {name}" for name in columns[1:]) for layout in LAYOUTS) + " |")
+    print("|---" * (2 + len(LAYOUTS) * len(columns)) + "|")
+    for kind, rows in times.items():
+        for program in dict.fromkeys(name for name, _ in programs):
+            cells = [kind, program]
+            for layout in LAYOUTS:
+                at = list(programs).index((program, layout))
+                cells.append(f"{mean([row[at] for row in rows]) * 1e6:.1f}")
+                cells += [f"{instructions[(program, layout), kind]:,.0f}"] if instructions else []
+                cells += [f"{mean([row[len(programs) + place] / row[at] for row in rows]):.2f}" for place in range(len(peers))]
+            print("| " + " | ".join(cells) + " |")
+    print()
+
+
+def tell_counts(kinds, times, programs, peers):
+    """Prints from where to where the times of the kinds of counts go, of those of each peer."""
+    names = [kind.name for kind in kinds if kind.order == "count"]
+    for at, (program, layout) in enumerate(programs):
+        shares = [[mean([row[at] / row[len(programs) + place] for row in times[name]]) for name in names] for place in range(len(peers))]
+        shown = (f"{min(each):.2f} to {max(each):.2f} of {peer.name}" for each, peer in zip(shares, peers) if each)
+        print(f"{len(names)} kinds of counts, {program}, {layout}: " + ", ".join(shown))
+
+
+def panels_of(times, programs, peers):
+    """Panels of the milliseconds of the first program over the merged index and of its peers."""
+    series = ["Buncocedar", *(f"SQLite {peer.name}" if peer.name == "FTS5" else peer.name for peer in peers)]
+    rows = {kind: [mean(column) * 1e3 for column in zip(*([row[0], *row[len(programs) :]] for row in rows))] for kind, rows in times.items()}
+    return [
+        {"title": kind, "kind": "bars", "unit": "ms", "series": series, "rows": [[label, *(float(f"{value:.3g}") for value in rows[label])] for label in labels]}
+        for kind, labels in groups(rows).items()
+    ]
+
+
+def groups(rows):
+    """The kinds in panels of about one length of bars, under their titles."""
+    found = {}
+    for label, values in rows.items():
+        found.setdefault("one answer, where none takes a millisecond" if max(values) < 1 else "one answer, the others", []).append(label)
+    return found
 
 
 def main():
@@ -190,31 +232,33 @@ def main():
     parser.add_argument("--program", default=os.path.join(top, "crates", "alta_cli", "out", "alta_cli"))
     parser.add_argument("--before", action="append", default=[])
     parser.add_argument("--lines", required=True)
-    parser.add_argument("--count", type=int, default=10000)
-    parser.add_argument("--repeat", type=int, default=100)
-    parser.add_argument("--turns", type=int, default=1)
-    parser.add_argument("--merged", action="store_true")
-    parser.add_argument("--levels", action="store_true")
+    parser.add_argument("--count", type=int, default=None)
     parser.add_argument("--gaps", metavar="N", type=int, default=0)
-    parser.add_argument("--top", metavar="K", type=int, default=0)
+    parser.add_argument("--turns", type=int, default=5)
+    parser.add_argument("--spend", metavar="MILLISECONDS", type=float, default=20)
+    parser.add_argument("--kinds", metavar="WORD", nargs="*", default=[])
+    parser.add_argument("--instructions", action="store_true")
     parser.add_argument("--record", metavar="FILE")
     options = parser.parse_args()
     with open(options.lines, "rb") as file:
         lines = file.readlines()[: options.count]
-    lines = lines if options.merged else fitting(lines)
-    print(f"{len(lines)} documents, {sum(map(len, lines))} bytes of input")
-    with tempfile.TemporaryDirectory() as folder:
-        asked, lines = without(lines, options.gaps)
-        data = b"".join(asked) + (b"merge\n" if options.merged else b"")
-        programs = [Program(options.program, folder, data), *(Program(path, folder, data, "before ") for path in options.before)]
-        if options.levels:
-            programs.append(Program(options.program, folder, in_levels(lines), "in levels "))
-        base = table_of(texts_of(lines), os.path.join(folder, "x.db") if options.merged else ":memory:", not options.merged)
-        panels = compared(programs, base, options) if options.record or not options.top else []
-        if options.top:
-            panels += ranked(programs, base, database_of(texts_of(lines), folder) if xapian else None, options)
-        if options.record:
-            record(options.record, f"Searches over {len(lines):,} short descriptions", panels)
+    paths = {"now": options.program, **{f"before{n or ''}": path for n, path in enumerate(options.before)}}
+    memory = "/dev/shm" if os.access("/dev/shm", os.W_OK) else None
+    with tempfile.TemporaryDirectory(dir=memory) as folder:
+        programs, left = indexes_of(paths, lines, options.gaps, folder)
+        texts = texts_of(left)
+        peers = peers_of(texts, folder)
+        kinds = [kind for kind in kinds_of(texts) if not options.kinds or any(word in kind.name for word in options.kinds)]
+        print(f"{len(left)} documents, {sum(map(len, left))} bytes of input; {machine()}")
+        times = measured(kinds, programs, peers, options)
+        instructions = counted(kinds, programs, folder) if options.instructions else {}
+        tell(times, programs, peers, instructions)
+        tell_counts(kinds, times, programs, peers)
+        print(machine())
+        for one in (*programs.values(), *peers):
+            one.close()
+    if options.record:
+        record(options.record, f"Searches over {len(left):,} short descriptions, by kind", panels_of(times, programs, peers))
     return 0
 
 

@@ -290,6 +290,8 @@ class Calls(Case):
                 (lambda: index.cursor(["x"]), "a query must be a str, not list"),
                 (lambda: index.add("b", "", b"x"), "a body must be a str, not bytes"),
                 (lambda: index.delete(1), "a name must be a str, not int"),
+                (lambda: index.answer("stats"), "a line must be bytes, not str"),
+                (lambda: buncocedar.value_range("2024-01-01", 5), "a value must be an int or a date, not str"),
                 (lambda: index.step("1"), "terms must be an int, not str"),
                 (lambda: index.step(1.0), "terms must be an int, not float"),
                 (lambda: cursor.page("1"), "count must be an int, not str"),
@@ -1138,6 +1140,7 @@ class Waiting(Case):
                 )
                 self.assertEqual(done.returncode, 3, done.stderr)
                 self.assertEqual(done.stderr.count(f"{self.path} is open in "), 2, done.stderr)
+                self.assertEqual(done.stderr.count(", and is waited for\n"), 1, done.stderr)
 
     def test_a_wait_that_ends_well(self):
         index = self.fake()
@@ -1249,8 +1252,12 @@ class RealProgram(Case):
                 with self.index() as index:
                     index.add("b", "", "x")
                     index.flush()
+            resource.setrlimit(resource.RLIMIT_FSIZE, (100_000, limits[1]))
+            with self.assertRaisesRegex(buncocedar.DiskFault, r"100,000 bytes at most here \(ulimit -f\)"):
+                Index(self.path + ".new", create=True, program=PROGRAM)
         finally:
             resource.setrlimit(resource.RLIMIT_FSIZE, limits)
+        self.assertFalse(os.path.exists(self.path + ".new"))
         with self.index() as index:
             self.assertEqual(index.stats().documents, 2)
 

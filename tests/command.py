@@ -6,19 +6,25 @@ usage: tests/command.py [--program PATH]
 Without --program the tests of the real program are left out, and that is said.
 """
 
+import contextlib
+import errno
+import io
 import json
 import os
 import shutil
+import signal
 import subprocess
 import sys
 import tempfile
 import unittest
+from unittest import mock
 
 # It lets the others find the client of the checkout.
 from support import BUNCO, CLIENT, PATIENCE, run_tests  # isort: skip
 
 import fake
 from buncocedar import Index, __version__
+from buncocedar.tools import check
 from buncocedar.tools.completion import bash, zsh
 from buncocedar.tools.main import COMMANDS, usage
 from buncocedar.tools.manual import page_of, page_of_all, roff_of, text_of
@@ -85,6 +91,12 @@ class Help(Case):
         self.assertEqual(self.bunco("completion", "fish", status=2), ("", "usage: bunco completion bash | zsh\n"))
         self.assertEqual(self.bunco("--version"), (f"bunco {__version__}\n", ""))
 
+    def test_versions(self):
+        said = self.bunco("--version")
+        self.assertRegex(said[0], r"^bunco [0-9.]+\n$")
+        for command in COMMANDS:
+            self.assertEqual(self.bunco(command.name, "--version"), said)
+
     def test_closed_streams(self):
         self.filled()
         for words in (["--help"], ["dump", self.path], ["find", self.path, "fox"]):
@@ -95,11 +107,35 @@ class Help(Case):
                 self.assertNotIn("Traceback", done.stderr, (words, closed))
                 self.assertEqual(bool(done.stderr), status == 3 and "2>" not in closed, (words, closed, done.stderr))
 
+    def test_what_standard_error_does_not_take(self):
+        """An import goes on, and ends as it would: all is stored, and one file is refused. Answers come without their hints."""
+        notes = os.path.join(self.folder, "notes")
+        os.mkdir(notes)
+        for closed in ("2>&-", "2>/dev/full"):
+            path = f"{self.path}{closed[2:].replace('/', '-')}"
+            for texts, status in (({"m.txt": b"fox"}, 0), ({"a.txt": b"stra\337e", "z.txt": b"dog"}, 1)):
+                for name, text in texts.items():
+                    with open(os.path.join(notes, name), "wb") as file:
+                        file.write(text)
+                command = ["sh", "-c", f'exec "$@" {closed}', "sh", sys.executable, "-S", BUNCO, "folder", path, notes]
+                done = subprocess.run(command, env={**os.environ, "BUNCOCEDAR_PROGRAM": self.program})
+                self.assertEqual(done.returncode, status, (closed, texts))
+            with Index(path, program=self.program) as index:
+                self.assertEqual(index.stats().documents, 2)
+            command[-3:] = ["find", path, "from:nobody"]
+            done = subprocess.run(command, env={**os.environ, "BUNCOCEDAR_PROGRAM": self.program}, stdout=subprocess.PIPE)
+            self.assertEqual((done.returncode, done.stdout[-8:]), (1, b"found 0\n"))
+            for name in os.listdir(notes):
+                os.remove(os.path.join(notes, name))
+
     def test_a_reader_that_has_enough(self):
         theirs, ours = os.pipe()
         os.close(theirs)
+        self.filled()
         with open(ours, "w") as closed:
             self.assertEqual(self.bunco("completion", "zsh", stdout=closed), (None, ""))
+            # The file of the fake program is no index, and the status says it all the same.
+            self.assertEqual(self.bunco("check", self.path, "--quick", stdout=closed, status=1), (None, ""))
 
     def test_as_a_module(self):
         done = subprocess.run(
@@ -113,7 +149,7 @@ class Help(Case):
     def test_what_is_loaded(self):
         """A command begins without what only others need: that takes longer than most answers."""
         needless = {"asyncio", "ssl", "uuid", "email", "html", "buncocedar.shards.index"}
-        for module, more in (("buncocedar", {"sqlite3"}), ("buncocedar.tools.find", {"buncocedar.imports.engine"}), ("buncocedar.imports.folder", set())):
+        for module, more in (("buncocedar", {"sqlite3"}), ("buncocedar.tools.find", {"buncocedar.imports.engine", "sqlite3", "datetime"}), ("buncocedar.imports.folder", set())):
             loads = f"import sys, {module}; print(*sys.modules)"
             done = subprocess.run([sys.executable, "-S", "-c", loads], env={**os.environ, "PYTHONPATH": CLIENT}, stdout=subprocess.PIPE, text=True, check=True)
             self.assertFalse((needless | more) & set(done.stdout.split()), module)
@@ -185,8 +221,21 @@ class Commands(Case):
         before = os.stat(self.path)
         self.assertIn("is there already", self.bunco("init", self.path, status=3)[1])
         self.assertEqual(os.stat(self.path).st_mtime_ns, before.st_mtime_ns)
-        self.assertIn("No such file", self.bunco("init", os.path.join(self.folder, "none", "x"), status=3)[1])
+        missing = os.path.join(self.folder, "none")
+        there = os.path.join(missing, "x")
+        self.assertEqual(self.bunco("init", there, status=3)[1], f"init: {there}: no index can be made: No such file or directory\n")
+        self.assertEqual(self.bunco("check", there, status=3)[1], f"check: {there}: No such file or directory\n")
+        self.assertEqual(self.bunco("compact", self.path, there, status=3)[1], f"compact: {missing}: No such file or directory\n")
+        self.assertEqual(self.bunco("folder", "--fast", there, self.folder, status=3)[1], f"folder: {there}: {missing}: No such file or directory\n")
         self.bunco("init", status=2)
+
+    def test_a_check_without_room(self):
+        self.filled()
+        told, full = io.StringIO(), OSError(errno.ENOSPC, os.strerror(errno.ENOSPC))
+        self.addCleanup(signal.signal, signal.SIGTERM, signal.getsignal(signal.SIGTERM))
+        with mock.patch.object(check, "copy_into", side_effect=full), contextlib.redirect_stderr(told):
+            self.assertEqual(check.main([self.path]), 3)
+        self.assertIn(f"No space left on device, in {self.folder}, where a copy is read: --tmp names another folder", told.getvalue())
 
     def test_dump(self):
         self.filled()

@@ -34,7 +34,7 @@ WRITTEN = {
     2000: "documents 1600 words 8000 next 2001\nfound 800\nfound 20\nfound 200\nfound 20\nfound 20\n1999 d1999\nfound 1\n",
 }
 OTHERS = [1, 4, 5, 9, 10, 99, 100, 101, 199, 499, 1700, 2099]
-REFUSED = [["demo"], ["demo", "1", "1"], *(["demo", number] for number in ("", "0", "01", "100001", "-1", "+1", "1 ", "x"))]
+REFUSED = [["demo"], ["demo", "1", "1"], *(["demo", number] for number in ("", "0", "01", "007", "100001", "1000000", "9" * 22, "-1", "+1", "1 ", "5x", "x"))]
 
 
 def lines_of(count):

@@ -20,6 +20,7 @@ import unittest
 HERE = os.path.dirname(os.path.abspath(__file__))
 PROGRAM = None
 DEVICE = None  # the library of the device, where it could be built
+HEAD = 2_105_344  # bytes before the first level
 PATIENCE = 60  # seconds after which what should have come counts as missing
 NOBODY = 65534
 LONG = "x y " * 2500  # a text that fills more than two pages
@@ -42,6 +43,16 @@ def run(path, *words, given="", **options):
 def content(path):
     with open(path, "rb") as file:
         return file.read()
+
+
+def within(most):
+    """For a child: its files have so many bytes at most."""
+
+    def bound():
+        signal.signal(signal.SIGXFSZ, signal.SIG_IGN)
+        resource.setrlimit(resource.RLIMIT_FSIZE, (most, most))
+
+    return bound
 
 
 def becoming_nobody():
@@ -81,6 +92,18 @@ class Faults(Edge):
     def test_a_folder(self):
         self.refused(2, ["alta: disk fault", "alta: open: Is a directory (os error 21)"], "run", path=self.folder)
 
+    def test_no_folder(self):
+        self.make()
+        for name, why in (("none", "No such file or directory (os error 2)"), ("x.alta", "Not a directory (os error 20)")):
+            self.refused(2, ["alta: disk fault", f"alta: open: {why}"], "init", path=self.at(name, "inside"))
+
+    def test_a_file_longer_than_the_limit(self):
+        self.make()
+        os.truncate(self.path, 1 << 40)
+        self.answered("documents 0 words 0 next 1\n")
+        os.truncate(self.path, (1 << 40) + 1)
+        self.refused(2, ["alta: disk fault", "alta: statx: file too large"], "run")
+
     def test_no_plain_file(self):
         self.refused(2, ["alta: disk fault", "alta: open: no plain file"], "init", path="/dev/null")
 
@@ -93,12 +116,13 @@ class Faults(Edge):
             self.refused(2, ["alta: disk fault", "alta: flock: another program has the file open"], "run")
 
     def test_a_file_that_may_not_grow(self):
-        def bound():
-            signal.signal(signal.SIGXFSZ, signal.SIG_IGN)
-            resource.setrlimit(resource.RLIMIT_FSIZE, (65536, 65536))
-
         lines = ["alta: disk fault", "alta: pwrite64: File too large (os error 27)"]
-        self.refused(2, lines, "init", preexec_fn=bound, restore_signals=False)
+        self.refused(2, lines, "init", preexec_fn=within(65_536), restore_signals=False)
+        # A demo gives nothing, be it that the head has no place, the first level or a later one.
+        for most in (0, 65_536, HEAD, HEAD + 1_000, HEAD + 20_000):
+            path = self.at(f"{most}.alta")
+            given = self.refused(2, lines, "demo", "200", path=path, preexec_fn=within(most), restore_signals=False)
+            self.assertEqual(given, "")
 
     def test_a_full_output(self):
         self.make()

@@ -26,7 +26,8 @@ from support import BUNCO, PATIENCE, run_tests, until  # isort: skip
 import buncocedar
 import fake
 from buncocedar import Index, InUse
-from buncocedar.imports.stamps import Stamp, Stamps, part_name, stamps_path
+from buncocedar.imports.stampfile import has_none_in_parts, stamps_path
+from buncocedar.imports.stamps import Stamp, Stamps, part_name
 from buncocedar.tools import hints, reading
 from buncocedar.tools.documents import Places
 from buncocedar.tools.rows import whole_documents
@@ -114,6 +115,11 @@ class Ends(Case):
         for words in (["--limit", "9" * 30], ["--oldest", "--limit", "9" * 30]):
             self.assertIn("found 1\n", self.find("fox", *words))
 
+    def test_numbers_that_are_none(self):
+        for words, said in ((["--limit", "x"], "x is no number"), (["--top", "0"], "0 is none of 1 to 1,000"), (["--top", "9" * 5_000], "none of 1 to 1,000")):
+            self.find("fox", *words, expect=2)
+            self.assertIn(said, self.said)
+
 
 class Parts(Case):
     def test_what_stands_between_two_parts(self):
@@ -129,6 +135,40 @@ class Parts(Case):
         self.assertEqual(self.find("fox", "--count"), "4\n")
         self.assertEqual(self.find("fox", "--limit", "3", "--oldest"), "1 long\n2 other1\n4 other2\n... and 1 more\nfound 4\n")
 
+    def test_where_none_is_in_parts(self):
+        """The first bytes of the stamps say so, until anybody changes them."""
+        path = stamps_path(self.path)
+        self.assertFalse(Places(self.path).has_parts())
+
+        def put(name, *numbers):
+            stamps = Stamps(path)
+            stamps.put({name: Stamp(numbers, "0" * 32, "0" * 8)})
+            return stamps
+
+        def known():
+            places = Places(self.path)
+            return places.has_parts(), places.read is None
+
+        put("a", 1).close()
+        self.assertEqual(known(), (False, True))
+        killed = put("b", 2, 3)
+        killed.flush()
+        self.assertEqual(known(), (True, False))
+        killed.close()
+        self.assertEqual(known(), (True, False))
+        for number in (4, 5):
+            put("b", number).close()
+            self.assertEqual(known(), (False, True))
+        # As by an older version, which notes nothing, and by a copy, which counts its changes anew.
+        with contextlib.closing(sqlite3.connect(path)) as base:
+            base.execute("UPDATE stamps SET numbers = '6,7' WHERE name = 'a'")
+            base.commit()
+        self.assertEqual(known(), (True, False))
+        put("a", 8).close()
+        copied = Places(self.at("copy"))
+        Places(self.path).records().copy(copied.path)
+        self.assertFalse(has_none_in_parts(copied.path))
+        self.assertFalse(copied.has_parts())
 
     def test_no_row_asks_the_stamps(self):
         """Which documents are stored in parts is asked once, and not again for each row of an answer."""
@@ -152,19 +192,30 @@ class Hints(Case):
             ("+fox dog", "+fox is the word fox here"),
             ("fox && dog", "&& is no operator here; AND is"),
             ("!fox", "!fox is the word fox here; NOT fox leaves it out"),
+            ("red NEAR fox", "NEAR is a word here; NEAR/10 is the operator"),
+            ("f*x", "* goes at the end of a word alone; f*x is words here"),
         ]:
             self.assertIn(hint, "\n".join(hints.operator_hints(query)))
-        for query in ("fox OR dog", "or", "this or", '"fox or dog"', "e-mail", "a NEAR/3 b", '"-dog"', "- dog"):
+        for query in ("fox OR dog", "or", "this or", '"fox or dog"', "e-mail", "a NEAR/3 b", '"-dog"', "- dog", "fo*", '"f*x"'):
             self.assertEqual(list(hints.operator_hints(query)), [])
 
     def test_fields_of_other_programs(self):
         nothing, asked = (lambda query: 0), []
         said = list(hints.field_hints('from:ann subject:x title:y name:z value:1..2 "to:bob" from:cid', nothing))
         self.assertEqual(len(said), 2)
-        self.assertIn("from: is no field of a query", said[0])
-        self.assertIn("here it is title:", said[1])
-        self.assertEqual(list(hints.field_hints("from:ann id:b@x", lambda query: asked.append(query) or 3)), [])
-        self.assertEqual(asked, ['"from:ann"'])
+        self.assertEqual(said[0], "no document has the word from:ann, as imports of mail make them")
+        self.assertIn("subject: is no field of a query; here it is title:", said[1])
+        self.assertEqual(list(hints.field_hints("From:ann", nothing)), ["no document has the word From:ann; the field is from:, in small letters"])
+        self.assertIn("the field is title:", "".join(hints.field_hints("Title:ann", nothing)))
+        self.assertEqual(list(hints.field_hints("from:ann to:b* id:b@x", lambda query: asked.append(query) or 3)), [])
+        self.assertEqual(asked, ["from:ann", "to:b*"])
+
+    def test_fields_before_a_quote(self):
+        said = 'from: before " is the word from alone here; "from ann lee" may be what is meant'
+        self.assertEqual(list(hints.parted_hints('fox from:"ann lee"')), [said])
+        self.assertIn("( to:a OR to:b ) may", "\n".join(hints.parted_hints("to:(ann OR bob)")))
+        for query in ('title:"red fox"', 'from: "ann"', 'from:ann "lee"', '"from:"', "from:ann"):
+            self.assertEqual(list(hints.parted_hints(query)), [])
 
     def test_one_spelling(self):
         counts = {'"gcc"': 5, '"GCC"': 2, '"OK"': 1, '"ok"': 1}
@@ -241,6 +292,8 @@ class Orders(Case):
         path = os.path.realpath(self.at("notes/a.txt"))
         self.assertEqual(self.find("quick", "--grep", "--limit", "2"), f"{path}:1:a Quick fox\n{path}:3:quick\n")
         self.assertIn("middle@x: it is no file of its own", self.said)
+        self.find("quick", "--grep")
+        self.assertEqual(self.said.count("it is no file of its own"), 1)
 
 
 class NobodyWaits(Case):

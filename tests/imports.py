@@ -992,7 +992,7 @@ class Sources(Case):
             yield Document("a", b"", lambda: Text("", ""))
             raise PermissionError(13, "Permission denied", "mail.mbox")
 
-        for fault, status, said in ((None, 3, "stopped: [Errno 13] Permission denied: 'mail.mbox'"), (KeyboardInterrupt, 130, "broken off")):
+        for fault, status, said in ((None, 3, "stopped: mail.mbox: Permission denied"), (KeyboardInterrupt, 130, "broken off")):
             told = io.StringIO()
             with contextlib.redirect_stderr(told), mock.patch.object(sys, "stdout", io.TextIOWrapper(io.BytesIO())):
                 with mock.patch.object(bringing, "parts_of", side_effect=fault, return_value=[]):

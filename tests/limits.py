@@ -2,7 +2,7 @@
 """Runs the program at each of its limits with memory to spare: tests/limits.py --program PATH
 
 Want of memory is the one answer that no contract ties to its cause, so a body that gave up at a limit would be proved. Here each
-limit is reached, and passed by one where a line can do that: a half of the journal full of the shortest records, the longest line,
+limit is reached, and passed by one where a line can do that: a half of the journal full of the shortest records and of long ones, the longest line,
 64 words, 32 levels of nesting, 64 cursors, 100,000 answers and sixteen levels. Each reply is compared whole with what this script
 writes out by docs/QUERIES.md and docs/FORMAT.md, no run may end with another status than 0, and so never with that of memory.
 """
@@ -50,6 +50,14 @@ class Index:
         with open(self.path, "rb") as file:
             file.seek(place)
             return file.read(count)
+
+    def content(self):
+        with open(self.path, "rb") as file:
+            return file.read()
+
+    def put(self, content):
+        with open(self.path, "wb") as file:
+            file.write(content)
 
     def switches(self):
         """Whether the root was switched to slot B."""
@@ -127,6 +135,45 @@ def shortest_documents(index):
     return full_half(index, added(), lambda adds: adds)
 
 
+# Fifteen documents with bodies of LONG letters leave 65,415 bytes of a half. A record takes 16 bytes beside its body here, and one that
+# replaces 24. Of each row a line adds a document with this name and a body of so many letters, and a second one `z`; there are the replies
+# to both, and whether the root was switched by then, since the line found no room in the half.
+LONG = 65_528
+LAST_RECORDS = (
+    ("a", 65_375, ("replaced 1 by 16", "added 17"), (False, False)),
+    ("a", 65_391, ("replaced 1 by 16", "added 17"), (False, True)),
+    ("a", 65_392, ("replaced 1 by 16", "added 17"), (True, True)),
+    ("p", 65_383, ("added 16", "added 17"), (False, False)),
+    ("p", 65_384, ("added 16", "added 17"), (False, True)),
+    ("p", 65_399, ("added 16", "added 17"), (False, True)),
+    ("p", 65_400, ("added 16", "added 17"), (True, True)),
+    ("p", 262_137, ("! line too long", "added 16"), (False, False)),
+)
+
+
+def last_records(index):
+    names = string.ascii_lowercase[:15]
+    index.run([f"add {name}\t\t{'x' * LONG}" for name in names], [f"added {number}" for number in range(1, 16)])
+    content = index.content()
+    for name, letters, replies, switched in LAST_RECORDS:
+        for together in (True, False):
+            index.put(content)
+            lines = [f"add {name}\t\t{'x' * letters}", "add z\t\t"]
+            if together:
+                index.run(lines, replies)
+                compare_switch(index, switched[1], letters)
+                continue
+            for line, reply, is_switched in zip(lines, replies, switched):
+                index.run([line], [reply])
+                compare_switch(index, is_switched, letters)
+    return f"{len(LAST_RECORDS)} last records"
+
+
+def compare_switch(index, is_switched, letters):
+    if index.switches() != is_switched:
+        raise SystemExit(f"limits: the root is {'not ' if is_switched else ''}switched with a body of {letters}")
+
+
 def longest_line(index):
     words = (LINE - len("add a\t\t")) // 2
     body = "x " * words
@@ -164,8 +211,9 @@ def deepest_nesting(index):
 
 def most_cursors(index):
     index.run(["add a\t\tx"], ["added 1"])
-    lines = ["open x"] * (CURSORS + 1) + [f"fetch {CURSORS} 1", "close 7", "open x"]
-    index.run(lines, [f"cursor {number}" for number in range(1, CURSORS + 1)] + ["! too many cursors", "1 a\nend", "closed 7", "cursor 7"])
+    lines = ["open x"] * (CURSORS + 1) + ["open x OR", f"fetch {CURSORS} 1", "close 7", "open x", f"fetch {CURSORS + 1} 1", "fetch 7 1", "count x"]
+    opened = [f"cursor {number}" for number in range(1, CURSORS + 1)]
+    index.run(lines, [*opened, "! too many cursors", "! query 4 Operand", "1 a\nend", "closed 7", "cursor 7", "! no such cursor", "1 a\nend", "found 1"])
     return f"{CURSORS} cursors"
 
 
@@ -191,10 +239,13 @@ def most_levels(index):
             raise SystemExit(f"limits: {index.levels()} levels behind {number} flushes")
         rows = [f"{one} {other}" for one, other in enumerate(names[:number], 1)]
         index.run(["search x", f"count {name}", "count a"], [*rows, f"found {number}", "found 1", "found 1"])
+    index.run(["merge", "search x"], ["ok", *rows, f"found {LEVELS + 1}"])
+    if index.levels() != 1:
+        raise SystemExit(f"limits: {index.levels()} levels behind a merge")
     return f"{LEVELS} levels on the disk"
 
 
-CASES = [shortest_records, shortest_documents, longest_line, most_words, deepest_nesting, most_cursors, most_answers, most_levels]
+CASES = [shortest_records, shortest_documents, last_records, longest_line, most_words, deepest_nesting, most_cursors, most_answers, most_levels]
 
 
 def main():

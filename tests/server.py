@@ -30,6 +30,7 @@ import fake
 from buncocedar import AsyncIndex, Index, InUse, copying
 from buncocedar.beside import give_rights
 from buncocedar.fileformat import HEAD, level_count
+from buncocedar.links import server_path
 from buncocedar.server import IDLE_SECONDS, LEVELS_KEPT, LINES_AHEAD, Server, Stopped, batches
 
 FAKE = fake.installed()
@@ -240,7 +241,7 @@ class Lines(Case):
         with open(os.path.join(self.folder, "copy"), "wb") as file:
             socket.send_fds(connection, [b"copy\nstats\n"], [file.fileno()])
         connection.shutdown(socket.SHUT_WR)
-        self.assertEqual(lines.read(), b"! copy it is no index\ndocuments 0 words 0 next 1\n")
+        self.assertEqual(lines.read(), b"! copy it is no index: is this the right path?\ndocuments 0 words 0 next 1\n")
 
     def test_refusals_of_the_program(self):
         self.serve(say=[2, "! no numbers left"])
@@ -496,7 +497,7 @@ class Ends(Case):
         self.serve()
         self.assertIn("is open in", refused(self.path, "--wait", "0"))
         long = os.path.join(self.folder, "x" * 100)
-        self.assertIn("cannot listen", refused(long, "--create"))
+        self.assertTrue(refused(long, "--create").startswith(f"server: {server_path(long)}: the server cannot listen: "))
         with Index(long, program=self.program) as index:
             self.assertEqual(index.stats().documents, 0)
 

@@ -593,9 +593,18 @@ class InABrowser(Case):
         """
         for _ in range(3):
             browser.value(script)
-            browser.until("shown === '#q=brown'")
+            browser.until("asked === '#q=brown' && asking === null")
             self.assertEqual(self.names(), ["a.txt"])
         self.assertEqual(browser.complaints(), [])
+
+    def test_back_to_what_is_shown(self):
+        """What is typed away from an answer and back to it, before another answer has come, shows the first one."""
+        self.filled()
+        browser = self.begin(self.served() + "#q=brown", "document.querySelectorAll('.answer').length === 1")
+        browser.value("box.value = 'quick'; ask(); box.value = 'brown'; ask()")
+        browser.until("asking === null")
+        self.assertEqual(browser.value("location.hash"), "#q=brown")
+        self.assertEqual(self.names(), ["a.txt"])
 
     def test_links_keys_and_the_way_back(self):
         self.filled()

@@ -295,7 +295,7 @@ def checks(scripts):
     put(one, content[: reading.HEAD - 1])
     checked(scripts, one, 1, f"damaged at {reading.HEAD - 1}")
     put(one, b"a file of another kind")
-    checked(scripts, one, 1, "it is no index")
+    checked(scripts, one, 1, "it is no index: is this the right path?")
     expect(scripts.run("check", scripts.at("none"))[0] == 3, "what is not there was checked")
 
 

@@ -30,6 +30,7 @@ import fake
 from browser import EVIL, LETTER, Browser, chromium
 from buncocedar import Index
 from buncocedar.shards import make, open_index
+from buncocedar.web import answers
 from buncocedar.web import server as web
 from buncocedar.web.answers import Library, Piece, pieces_of
 from buncocedar.web.markup import Markup, element, escaped
@@ -114,9 +115,13 @@ class Case(unittest.TestCase):
         self.addCleanup(folder.cleanup)
         self.folder = folder.name
         self.path = os.path.join(folder.name, "x.alta")
-        patched = unittest.mock.patch.dict(os.environ, {"BUNCOCEDAR_PROGRAM": PROGRAM})
-        patched.start()
-        self.addCleanup(patched.stop)
+        # On a busy machine two seconds are none.
+        for patched in (
+            unittest.mock.patch.dict(os.environ, {"BUNCOCEDAR_PROGRAM": PROGRAM}),
+            unittest.mock.patch.object(answers, "SNIPPET_SECONDS", PATIENCE),
+        ):
+            patched.start()
+            self.addCleanup(patched.stop)
         self.said = []
 
     def write(self, name, text):
@@ -212,6 +217,14 @@ class Pages(Case):
         for query in ("%3Cscript%3E", "%00", "%ff", "%F0%9F%A6%8A", "a" * 1_999):
             self.ask(f"/?q={query}", (200, 400))
 
+    def test_hints(self):
+        self.filled()
+        self.site()
+        hint = "or is a word here; OR is the operator"
+        self.assertIn(f'<p class="hint">{hint}</p>', self.ask("/?q=quick+or+zebra"))
+        self.assertEqual(json.loads(self.ask("/api/search?q=quick+or+zebra"))["hints"], [hint])
+        self.assertNotIn("hint", self.ask("/?q=quick+zebra"))
+
     def test_faults(self):
         self.filled()
         self.site()
@@ -270,6 +283,14 @@ class Pages(Case):
             seen += names
         self.assertEqual((len(seen), set(seen)), (45, {f"n{number}" for number in range(1, 46)}))
         self.assertEqual(len(self.names("/?q=quick")[0]), 20)
+
+    def test_snippets_that_take_too_long(self):
+        self.filled()
+        self.site()
+        with unittest.mock.patch.object(answers, "SNIPPET_SECONDS", 0):
+            page = self.ask("/?q=quick")
+        self.assertIn('<p class="count">4 documents</p>', page)
+        self.assertNotIn("<mark>", page)
 
     def test_a_row_that_is_gone(self):
         self.many(45)
@@ -562,12 +583,19 @@ class Command(Case):
         self.many(1)
         process = self.start(os.path.join(self.folder, "none"))
         self.assertEqual((process.wait(PATIENCE), "no such file" in process.stderr.read()), (3, True))
+        process = self.start(BUNCO)
+        self.assertEqual((process.wait(PATIENCE), "holds something else" in process.stderr.read()), (3, True))
         with socket.create_server(("127.0.0.1", 0)) as other:
             process = self.start(self.path, "--port", str(other.getsockname()[1]))
             self.assertEqual((process.wait(PATIENCE), "in use" in process.stderr.read()), (3, True))
-        for words in (["--port", "70000"], ["--url", "example.org"], ["--url", "https://x/?q=1"]):
+        for words, said in (
+            (["--port", "70000"], "70000 is no port"),
+            (["--port", "x"], "x is no port"),
+            (["--url", "example.org"], "example.org is no address"),
+            (["--url", "https://x/?q=1"], "is no address"),
+        ):
             process = self.start(self.path, *words)
-            self.assertEqual((process.wait(PATIENCE), "usage" in process.stderr.read()), (2, True))
+            self.assertEqual((process.wait(PATIENCE), said in process.stderr.read()), (2, True))
 
     def test_for_others(self):
         self.many(1)
@@ -609,10 +637,10 @@ class InABrowser(Case):
 
     def test_what_is_typed_is_shown_as_what_is_loaded(self):
         browser = self.begin()
-        for query in ("quick", "zebra", FAULTY if PROGRAM is FAKE else "fox \u65e5)"):
+        for query in ("quick", "zebra", "quick or zebra", FAULTY if PROGRAM is FAKE else "fox \u65e5)"):
             browser.value("(box.value = '', box.focus())")
             browser.type(query)
-            browser.until(f"location.search && shown === addressOf({{ q: {json.dumps(query)}, order: 'best' }})")
+            browser.until(f"location.search && asking === null && asked === addressOf({{ q: {json.dumps(query)}, order: 'best' }})")
             typed = browser.value("document.getElementById('main').innerHTML + document.title")
             browser.open(f"http://127.0.0.1:{self.port}/?q={quote(query)}")
             loaded = browser.value("document.getElementById('main').innerHTML + document.title")
@@ -675,7 +703,7 @@ class InABrowser(Case):
         with Index(self.path, patience=PATIENCE):
             for query in ("quick", ""):
                 browser.value(f"(box.value = {json.dumps(query)}, ask())")
-                browser.until(f"shown === addressOf({{ q: {json.dumps(query)}, order: 'best' }})")
+                browser.until(f"asking === null && asked === addressOf({{ q: {json.dumps(query)}, order: 'best' }})")
                 self.assertIn("is open in", browser.value("document.querySelector('.fault').textContent"))
 
     def test_without_scripts(self):

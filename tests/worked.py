@@ -2,7 +2,7 @@
 """Compares answers and files with worked rows: tests/worked.py [--program PATH]
 
 The rows were worked out by hand. First come the answers of queries over two documents, of which some are deleted, whole, in pages and
-the best first, and those of words that stand in one document or in all of a thousand and one. Then come the bytes that lines leave in
+the best first, and those of words that stand in one document or in all of a thousand and one, and how often lines read the file. Then come the bytes that lines leave in
 the file: a record, a level, the join of levels, and the root of an index that an earlier program wrote. The levels that are wanted are
 spelled by tests/model, which uses nothing of the program's.
 """
@@ -226,6 +226,54 @@ def over_levels(index):
     for row in OVER_LEVELS.splitlines():
         query, want = row.split(" => ")
         compare(row, paged(file.run(f"search {query}")), ["" if want == "none" else want])
+
+
+# Lines over a level with the document `a`, and how many times each reads the file. The list of all ends is read once until a line changes
+# the index, and so is a long list; a short one is read each time it is asked.
+READS = """\
+count zebra: 1, count zebra: 0, search owl: 0
+count fox: 2, count fox: 1
+count elk: 2, count elk: 0, search elk: 0
+count elk: 2, add b\tx\ty: some, count elk: 2
+count elk: 2, merge: 0, count elk: 2
+open zebra: 1, count (: 0, top 1 fox: 2, count zebra: 0
+count zebra: 1, add b\tx\ty: some, count zebra: 1, count zebra: 0
+count zebra: 1, delete a: some, count zebra: 1
+count zebra: 1, delete b: 0, count zebra: 0
+stats: 0, flush: 0, merge: 0, step 1: 0, stats: 0
+"""
+OFTEN = 300  # times a word stands whose list is long
+
+
+def calls_of_read(process):
+    with open(f"/proc/{process}/io", encoding="ascii") as file:
+        return next(int(line.split()[1]) for line in file if line.startswith("syscr:"))
+
+
+def times_read(program, path, lines):
+    """How many times the program reads the file for each line, beside the one time that it reads the line."""
+    with subprocess.Popen([program, path, "run"], stdin=subprocess.PIPE, stdout=subprocess.PIPE) as ran:
+        last = None
+        for line in ["stats", *lines]:
+            ran.stdin.write(f"{line}\n".encode())
+            ran.stdin.flush()
+            # The last line of a reply is the one that is no answer.
+            while ran.stdout.readline()[:1].isdigit():
+                pass
+            now = calls_of_read(ran.pid)
+            if last is not None:
+                yield now - last - 1
+            last = now
+        ran.stdin.close()
+
+
+def reads(index):
+    for row in READS.splitlines():
+        file = index()
+        file.run(TWO[0] + " elk" * OFTEN, "flush")
+        lines, want = zip(*[part.rsplit(": ", 1) for part in row.split(", ")])
+        found = [number if word != "some" else word for number, word in zip(map(str, times_read(file.program, file.path, lines)), want)]
+        compare(row, found, list(want))
 
 
 # ---- bytes
@@ -482,9 +530,9 @@ def main():
     program = os.path.abspath(parser.parse_args().program)
     with tempfile.TemporaryDirectory() as folder:
         make = lambda content=None: Index(program, folder, content)
-        for part in (answers, best, many, over_levels, one_document, flushes, joins, raised, earlier, one_hash):
+        for part in (answers, best, many, over_levels, reads, one_document, flushes, joins, raised, earlier, one_hash):
             part(make)
-    tables = (ANSWERS.splitlines(), BEST.splitlines(), OF_MANY.splitlines(), OVER_LEVELS.splitlines(), JOINS, RAISES.splitlines(), SHARED.splitlines())
+    tables = (ANSWERS.splitlines(), BEST.splitlines(), OF_MANY.splitlines(), OVER_LEVELS.splitlines(), READS.splitlines(), JOINS, RAISES.splitlines(), SHARED.splitlines())
     print(f"worked: {sum(map(len, tables))} rows")
 
 
