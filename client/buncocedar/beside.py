@@ -98,7 +98,11 @@ def making(parent: str, prefix: str = PREFIX) -> Iterator[str]:
 
     with contextlib.suppress(OSError):
         remove_left(parent, prefix)
-    folder, handle = _locked_folder(parent, prefix)
+    try:
+        folder, handle = _locked_folder(parent, prefix)
+    except OSError as error:
+        # The name of what could not be made there says nothing.
+        raise OSError(error.errno, error.strerror, parent) from None
     try:
         yield os.path.join(folder, MADE)
     finally:

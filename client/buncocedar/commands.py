@@ -134,6 +134,8 @@ class Commands(Queries):
 
         Raises the `Refused` of a line that is not sent.
         """
+        if not isinstance(line, bytes):
+            raise TypeError(f"a line must be bytes, not {type(line).__name__}")
         word = line.partition(b" ")[0]
         if len(line) > LINE_LIMIT:
             raise too_long(len(line), "a line")

@@ -16,7 +16,8 @@ from typing import List, NamedTuple
 
 from .beside import making
 from .fileformat import HALF, HEAD, SLOT, Unusable, read_journal, read_root
-from .imports.stamps import JOURNAL, Records, stamps_path
+from .imports.stampfile import JOURNAL, stamps_path
+from .imports.stamps import Records
 from .errors import InUse
 from .links import FIGURES_LINE, SECONDS_TO_CONNECT, asked, connected
 

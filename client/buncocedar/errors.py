@@ -2,6 +2,7 @@
 
 from __future__ import annotations
 
+import contextlib
 import os
 import re
 import signal
@@ -311,23 +312,29 @@ def disk_cause(path: str) -> Optional[str]:
     import resource
 
     folder = os.path.dirname(os.path.abspath(path))
+    found = None
     try:
-        found = os.stat(path)
+        # A file that was to be made may not be there yet.
+        with contextlib.suppress(FileNotFoundError):
+            found = os.stat(path)
         room = os.statvfs(folder)
     except FileNotFoundError:
-        return f"there is no file {path}" if os.path.isdir(folder) else f"there is no folder {folder}"
+        return f"there is no folder {folder}"
     except OSError as error:
         return f"{path}: {error.strerror}"
+    size, kind = (found.st_size, found.st_mode) if found else (0, stat.S_IFREG)
+    is_there = found is not None
     free = (room.f_bavail if os.geteuid() else room.f_bfree) * room.f_frsize
     most = resource.getrlimit(resource.RLIMIT_FSIZE)[0]
     causes = {
-        f"{path} is a folder": stat.S_ISDIR(found.st_mode),
-        f"{path} is no plain file": not stat.S_ISREG(found.st_mode),
+        f"{path} is a folder": stat.S_ISDIR(kind),
+        f"{path} is no plain file": not stat.S_ISREG(kind),
         f"the file system of {path} is for reading only": room.f_flag & os.ST_RDONLY,
-        f"no right to read {path}": not os.access(path, os.R_OK),
-        f"no right to write {path}": not os.access(path, os.W_OK),
-        f"a file may have {most:,} bytes at most here (ulimit -f)": most <= found.st_size + SCANT_ROOM and most >= 0,
+        f"no right to read {path}": is_there and not os.access(path, os.R_OK),
+        f"no right to write {path}": is_there and not os.access(path, os.W_OK),
+        f"a file may have {most:,} bytes at most here (ulimit -f)": most <= size + SCANT_ROOM and most >= 0,
         f"the disk of {path} is full: {free:,} bytes free; make room, then run this again": free < SCANT_ROOM,
+        f"there is no file {path}": not is_there,
     }
     return next((cause for cause, applies in causes.items() if applies), None)
 

@@ -89,7 +89,7 @@ def read_root(file):
     slots = [os.pread(file.fileno(), SLOT, place) for place in (0, SLOT)]
     opened = [index for index in (0, 1) if slots[index][:1] == bytes([OPEN])]
     if size < 2 * SLOT or not opened:
-        raise Unusable("it is no index")
+        raise Unusable("it is no index: is this the right path?")
     rule(size >= HEAD, size)
     roots = [read_slot(slots[index], index, size) for index in opened]
     if len(roots) == 1:

@@ -2,11 +2,13 @@
 
 from __future__ import annotations
 
-import datetime
-from typing import Tuple, Union
+from typing import TYPE_CHECKING, Tuple, Union
 
 from .errors import BadName, LineTooLong
 from .texts import fitted, name_ok, one_line, whole
+
+if TYPE_CHECKING:
+    import datetime
 
 LINE_LIMIT = 262_143  # bytes of a command line
 TITLE_ROOM = 4_096  # bytes that a title keeps where its line is cut
@@ -51,4 +53,8 @@ def value_range(first: Union[int, datetime.date], last: Union[int, datetime.date
 
 
 def _day(value):
+    import datetime  # here, since who asks for no dates needs none of it
+
+    if isinstance(value, str):
+        raise TypeError("a value must be an int or a date, not str")
     return value.year * 10_000 + value.month * 100 + value.day if isinstance(value, datetime.date) else value

@@ -54,6 +54,7 @@ from .index import Index
 from .lines import LINE_LIMIT
 from .links import FIGURES_LINE, server_path
 from .shards.folder import is_folder_of_shards, shard_path, shards_in
+from .terminal import waits, why
 
 PAGE = 1_000  # rows of a search, at a time
 PIECE = 1 << 16  # bytes of a dump, at a time
@@ -466,7 +467,7 @@ def say(text):
 
 def opened(stack, path, options):
     """A server of the index at a path, which listens; the stack holds what it needs."""
-    index = stack.enter_context(Index(path, options.create, patience=options.wait, on_wait=say, server=False))
+    index = stack.enter_context(Index(path, options.create, patience=options.wait, on_wait=waits(say), server=False))
     # Opened once: later there may be too many files, or another one at the path.
     file = stack.enter_context(open(path, "rb"))
     server = Server(index, file, Listener(path))
@@ -517,5 +518,5 @@ def main(arguments=None):
     try:
         return serve(options)
     except (Error, OSError) as error:
-        say(error)
+        say(why(error))
         return STOPPED

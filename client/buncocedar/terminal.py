@@ -21,6 +21,17 @@ def why(error):
     return str(error)
 
 
+def why_at(path, error):
+    """An error in words, behind the path that it is of, which stands there once."""
+    told = why(error)
+    return told if told.startswith(path) else f"{path}: {told}"
+
+
+def waits(say):
+    """What tells, by this call, who is waited for."""
+    return lambda who: say(f"{who}, and is waited for")
+
+
 def write(text):
     """Writes text and flushes; a reader that has enough ends it quietly."""
     with quiet_end():

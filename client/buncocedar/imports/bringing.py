@@ -20,12 +20,14 @@ from ..index import Index
 from ..lasting import lasting
 from ..lines import add_line
 from ..shards import is_address, open_index
+from ..terminal import waits, why, why_at
 from .engine import Import, Options
 from .interrupts import Interrupts
 from .log import Log, several
 from .making import Makers
 from .parts import parts_of
-from .stamps import Known, Place, Stamps, below, name_of, numbered, stamps_path
+from .stampfile import stamps_path
+from .stamps import Known, Place, Stamps, below, name_of, numbered
 
 MEMORY = "/dev/shm"
 BESIDE = "buncocedar-"  # how the name of a folder in memory begins, in which an index is made
@@ -60,7 +62,7 @@ def bring_all(tool, path, sources, options=Options(), fast=False):
         with no_wider_than(below(source.path, Place(options.file)) for source, _ in sources):
             return (bring_beside if fast else bring_into)(log, path, sources, options)
     except (Error, OSError, Unusable) as error:
-        log.say(f"stopped: {error}" if path == "-" else error if str(error).startswith(path) else f"{path}: {error}")
+        log.say(f"stopped: {why(error)}" if path == "-" else why_at(path, error))
         return STOPPED
     except KeyboardInterrupt:
         log.say("broken off" if path == "-" else "broken off: run this again, and it goes on from here")
@@ -80,14 +82,14 @@ def bring_into(log, path, sources, options):
     with contextlib.ExitStack() as stack:
         makers = Makers(1 if options.may_pause else options.jobs)
         stack.callback(makers.close)
-        index = stack.enter_context(open_index(path, create=True, patience=options.wait, on_wait=log.say))
+        index = stack.enter_context(open_index(path, create=True, patience=options.wait, on_wait=waits(log.say)))
         if not isinstance(index, Index):
             # The shards fill one by one, and each has its levels joined when it has taken much.
             index.merges = options.merge
             options = options._replace(merge=False)
         # Behind a server several may have the index: one import at a time gives names, and writes stamps.
         with no_wider_than([path]):
-            stamps = Stamps(stamps_path(path), options.wait, lambda why: log.say(f"{path}: {why}, and is waited for"))
+            stamps = Stamps(stamps_path(path), options.wait, waits(lambda text: log.say(f"{path}: {text}")))
         stack.callback(stamps.close)
         interrupts = stack.enter_context(Interrupts(index))
         for number, (source, documents) in enumerate(sources, 1):

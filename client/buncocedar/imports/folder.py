@@ -26,7 +26,8 @@ from ..document import TEXT_LIMIT, Document, NoText, Text, Unfit, Unseen
 from ..links import server_path
 from .bringing import BAD_USE, bring_as, parser_of
 from .packed import FAULTS, is_packed, opened
-from .stamps import JOURNAL, Place, Source, stamps_path
+from .stampfile import JOURNAL, stamps_path
+from .stamps import Place, Source
 
 BINARY_LOOK = 8_192  # bytes that are looked at for a NUL
 CHUNK = 1 << 20

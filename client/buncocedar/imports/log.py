@@ -1,5 +1,6 @@
-"""What an import says while it runs."""
+"""What an import says while it runs. Where standard error takes no more, as on a full disk, the import goes on."""
 
+import contextlib
 import sys
 import time
 
@@ -15,8 +16,9 @@ class Log:
         self.at = 0.0
 
     def say(self, text):
-        self.clear()
-        print(f"{self.tool}: {text}", file=self.file, flush=True)
+        with contextlib.suppress(OSError):
+            self.clear()
+            print(f"{self.tool}: {text}", file=self.file, flush=True)
 
     def clear(self):
         if self.shown:

@@ -15,11 +15,12 @@ import os
 import sys
 
 from ..document import Unchanged, Unfit
-from ..terminal import printable, quiet_end, why, write
+from ..terminal import printable, quiet_end, why_at, write
 from . import archives
 from .bringing import BAD_USE, STOPPED, bring_as, parser_of
 from .messages import Message, document_of, form_of
-from .stamps import Known, Records, Source, digest, is_numbered, name_of, numbered, part_of, stamps_path, stem_of
+from .stampfile import stamps_path
+from .stamps import Known, Records, Source, digest, is_numbered, name_of, numbered, part_of, stem_of
 
 
 def documents(path, known, attached=True):
@@ -122,7 +123,7 @@ def main(arguments=None):
         try:
             return show(options.index, options.archive[0], options.raw)
         except OSError as error:
-            print(f"mail: {options.index}: {why(error)}", file=sys.stderr)
+            print(f"mail: {why_at(options.index, error)}", file=sys.stderr)
             return STOPPED
     attached = not options.no_attachments
     form = digest(form_of(attached), 4)

@@ -45,6 +45,7 @@ from typing import NamedTuple, Optional
 from ..beside import give_rights, is_at, lock
 from ..errors import InUse
 from ..texts import Regular
+from .stampfile import MAGIC, has_none_in_parts, number_to_note
 
 NAME_LIMIT = 64
 STEM_LIMIT = 58  # characters of a name before the end of a part, as `~p2`
@@ -52,8 +53,6 @@ FRONT_LIMIT = 56  # characters with which all names of documents begin that want
 SECONDS_OF_SILENCE = 1.0  # in a wait for another import
 SECONDS_BETWEEN_WRITES = 0.3
 SECONDS_FOR_ROWS = 60.0  # how long rows wait for who reads the file
-JOURNAL = "-journal"  # how the name of the file ends that SQLite has beside its own
-MAGIC = b"SQLite format 3\0"
 TABLES = """
 CREATE TABLE IF NOT EXISTS sources (source TEXT PRIMARY KEY, kind TEXT NOT NULL, path TEXT NOT NULL) WITHOUT ROWID;
 CREATE TABLE IF NOT EXISTS stamps (name TEXT PRIMARY KEY, numbers TEXT NOT NULL, stamp TEXT NOT NULL, source TEXT NOT NULL,
@@ -365,6 +364,8 @@ class Records:
         """Writes the stamps to a new file, to the disk."""
         with self._said(), contextlib.closing(sqlite3.connect(path)) as target:
             self.base.backup(target)
+            # The copy counts its changes anew.
+            target.execute("PRAGMA user_version = 0")
 
 
 class Stamps(Records):
@@ -462,8 +463,15 @@ class Stamps(Records):
                 self.base.execute("ROLLBACK")
         self.written = time.monotonic()
 
+    def _note_parts(self):
+        """Notes in the first bytes of the file that no document is in parts, where that is so and not noted yet."""
+        with contextlib.suppress(sqlite3.Error, OSError):
+            if self.fault is None and not has_none_in_parts(self.path) and not self.in_parts():
+                self.base.execute(f"PRAGMA user_version = {number_to_note(self.path)}")
+
     def close(self):
         self.flush()
+        self._note_parts()
         self.base.close()
         os.close(self.file)
 
@@ -533,8 +541,3 @@ def make_alike(path, like):
     """Makes an empty file with the rights of another one, before anything is in it."""
     os.close(os.open(path, os.O_WRONLY | os.O_CREAT | os.O_EXCL, 0o600))
     give_rights(path, like)
-
-
-def stamps_path(index):
-    """The path of the stamps beside an index, also where it is named by a link."""
-    return f"{os.path.realpath(index)}.stamps"

@@ -20,7 +20,7 @@ import re
 import sys
 
 from ..errors import Error
-from ..imports.stamps import stamps_path
+from ..imports.stampfile import stamps_path
 from . import is_address
 from .errors import Missing
 from .folder import is_folder_of_shards, make, settings_of, shard_path, shards_in, write_settings

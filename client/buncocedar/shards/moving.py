@@ -7,7 +7,8 @@ from typing import Any, Dict, Iterable, List, NamedTuple, Optional
 
 from ..errors import Error
 from ..imports.engine import EVERY_DOCUMENT
-from ..imports.stamps import Records, Stamps, stamps_path
+from ..imports.stampfile import stamps_path
+from ..imports.stamps import Records, Stamps
 from ..index import Index
 from .files import RELEASED, copied
 from .folder import Settings, is_folder_of_shards, settings_of, shard_path, shards_in, write_settings

@@ -57,7 +57,7 @@ class Made(NamedTuple):
 def base_of(text: str) -> str:
     """The address below which the documents stand: of the web, or relative to the page."""
     if urlsplit(text).scheme not in ("", "http", "https") or not text:
-        raise ValueError
+        raise argparse.ArgumentTypeError(f"{text} is no address of the web, and no path below the page")
     return text
 
 

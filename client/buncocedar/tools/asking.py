@@ -7,7 +7,7 @@ from typing import Any, NamedTuple, Optional
 from ..errors import NotUtf8, Refused, UnknownCommand
 from ..replies import MOST_BEST
 from ..terminal import paged
-from .hints import field_hints, operator_hints, spelling_hints
+from .hints import hints_of, operator_hints, parted_hints
 
 FAULT = 2
 PROMPT_HELP = """A line is a query: words, "a phrase", qui*, title:fox, name:x, red NEAR/5 fox, AND, OR, NOT, ( ).
@@ -37,7 +37,9 @@ class Answered(NamedTuple):
 
 
 def say(text):
-    print(f"find: {text}", file=sys.stderr)
+    # The answers come also where standard error takes nothing.
+    with contextlib.suppress(OSError):
+        print(f"find: {text}", file=sys.stderr)
 
 
 def take(index, query, view, limit, top=None):
@@ -97,12 +99,9 @@ def taken(index, query, view, limit, top):
 
 def hints(index, query, answered, is_read):
     """What is said of a query that may mean something else than who wrote it thinks."""
-    yield from operator_hints(query)
     if answered.refused is not None:
-        return
-    yield from field_hints(query, index.count)
-    if is_read or not answered.total:
-        yield from spelling_hints(query, index.count)
+        return [*operator_hints(query), *parted_hints(query)]
+    return hints_of(query, index.count, is_read or not answered.total)
 
 
 def answer(answered, view):

@@ -16,6 +16,7 @@ The status is 0 where no damage was found, 1 where the index is damaged or has l
 # not say what the program says.
 
 import argparse
+import errno
 import os
 import signal
 import sys
@@ -27,9 +28,10 @@ from ..errors import Damaged, Ended, Error
 from ..fileformat import HALF, HEAD, SLOT, Unusable, read_root
 from ..holders import holder
 from ..imports.engine import EVERY_DOCUMENT
-from ..imports.stamps import Records, part_name, stamps_path
+from ..imports.stampfile import stamps_path
+from ..imports.stamps import Records, part_name
 from ..index import Index
-from ..terminal import why
+from ..terminal import quiet_end, why_at
 from .digests import Digests, differences, digests_path, kept, keep, taken
 
 WHOLE, DAMAGED, UNCHECKED = 0, 1, 3
@@ -83,7 +85,8 @@ def lost_documents(index, live):
 
 
 def say(text):
-    print(f"check: {text}")
+    with quiet_end():
+        print(f"check: {text}", flush=True)
 
 
 def say_damage(text):
@@ -192,11 +195,13 @@ def main(arguments=None):
     try:
         return check_quickly(options.index) if options.quick else check(options.index, options.tmp)
     except Unusable as fault:
-        print(f"check: {fault}" if str(fault).startswith(options.index) else f"check: {options.index}: {fault}", file=sys.stderr)
+        print(f"check: {why_at(options.index, fault)}", file=sys.stderr)
     except Ended as fault:
         print(f"check: {options.index}: the program ended over a copy of it: {fault}", file=sys.stderr)
     except (Error, OSError) as error:
-        print(f"check: {options.index}: {why(error)}", file=sys.stderr)
+        is_full = isinstance(error, OSError) and error.errno == errno.ENOSPC
+        advice = f", in {folder_for_copy(options.index, options.tmp)}, where a copy is read: --tmp names another folder" if is_full else ""
+        print(f"check: {why_at(options.index, error)}{advice}", file=sys.stderr)
     except KeyboardInterrupt:
         return 130
     return UNCHECKED

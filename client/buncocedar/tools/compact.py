@@ -18,7 +18,7 @@ from ..copying import copy_into, put_written, write_packed
 from ..errors import Error
 from ..fileformat import Unusable, read_journal, read_root
 from ..index import Index
-from ..terminal import why
+from ..terminal import why, why_at
 
 
 def parser():
@@ -72,7 +72,7 @@ def main(arguments=None):
         put_written(lambda target: copy(options.old, target), options.old, options.new, found.st_mode)
         sizes = found.st_size, os.path.getsize(options.new)
     except Unusable as fault:
-        print(f"compact: {fault}" if str(fault).startswith(options.old) else f"compact: {options.old}: {fault}", file=sys.stderr)
+        print(f"compact: {why_at(options.old, fault)}", file=sys.stderr)
         return 3
     except OSError as error:
         print(f"compact: {why(error)}" if error.filename else f"compact: {options.old}: {error.strerror}", file=sys.stderr)

@@ -9,7 +9,7 @@ import importlib
 import os
 import re
 
-from ..imports.stamps import STEM_LIMIT, Records, part_of, stamps_path, stem_of
+from ..imports.stampfile import has_none_in_parts, stamps_path
 from ..texts import Regular
 
 READERS = {"folder": "folder", "mail": "messages", "packages": "packages"}  # of each kind of import the module that reads a document again
@@ -36,6 +36,8 @@ class Places:
 
     def records(self):
         if self.read is None:
+            from ..imports.stamps import STEM_LIMIT, Records, stem_of
+
             self.read = Records(self.path)
             self.in_parts = frozenset(self.read.in_parts())
             self.long_stems = {stem_of(name): name for name in self.in_parts if len(name) > STEM_LIMIT}
@@ -43,7 +45,11 @@ class Places:
 
     def document(self, name):
         """The name of the document that has this one as a part; any other name is a document's own."""
-        part = part_of(name) if "~p" in name else None
+        if "~p" not in name:
+            return name
+        from ..imports.stamps import part_of
+
+        part = part_of(name)
         if part is None:
             return name
         records = self.records()
@@ -85,6 +91,9 @@ class Places:
             return ""
 
     def has_parts(self):
+        """Whether any document is stored in parts. Where the first bytes of the stamps say that none is, no more is loaded."""
+        if self.read is None and has_none_in_parts(self.path):
+            return False
         self.records()
         return bool(self.in_parts)
 

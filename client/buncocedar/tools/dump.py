@@ -14,6 +14,7 @@ from ..errors import Error
 from ..lines import add_line
 from ..replies import Skipped
 from ..shards import open_index
+from ..terminal import waits
 
 SOME_LEFT_OUT = 1
 STOPPED = 3
@@ -49,7 +50,7 @@ def write_all(documents):
 def main(arguments=None):
     options = parser().parse_args(arguments)
     try:
-        with open_index(options.index, patience=options.wait, on_wait=say) as index:
+        with open_index(options.index, patience=options.wait, on_wait=waits(say)) as index:
             return SOME_LEFT_OUT if write_all(index.dump()) else 0
     except OSError as error:
         # What is still buffered goes nowhere, so that the end says nothing of it.

@@ -44,16 +44,15 @@ def say(text):
 
 
 def count_of(text):
-    count = int(text)
-    if count < 0:
-        raise ValueError
-    return min(count, sys.maxsize)
+    if not text.isdecimal():
+        raise argparse.ArgumentTypeError(f"{text} is no number")
+    return min(int(text[:20]), sys.maxsize)
 
 
 def best_count(text):
     count = count_of(text)
     if not 1 <= count <= MOST_BEST:
-        raise ValueError
+        raise argparse.ArgumentTypeError(f"{text} is none of 1 to {MOST_BEST:,}")
     return count
 
 

@@ -11,6 +11,7 @@ import sys
 from ..errors import Error
 from ..links import default_program
 from ..making import holds_bytes, make_index
+from ..terminal import why_at
 
 STOPPED = 3
 
@@ -32,7 +33,7 @@ def main(arguments=None):
             return STOPPED
         make_index(default_program(), options.index)
     except (Error, OSError) as error:
-        print(f"init: {error}", file=sys.stderr)
+        print(f"init: {why_at(options.index, error)}", file=sys.stderr)
         return STOPPED
     except KeyboardInterrupt:
         return 130

@@ -1,11 +1,12 @@
 """The command `bunco`: one word for each thing that is done with an index."""
 
+import contextlib
 import gc
 import importlib
 import os
 import signal
 import sys
-from typing import List, NamedTuple, Optional
+from typing import List, NamedTuple, Optional, TextIO
 
 from ..lasting import lasting
 
@@ -109,6 +110,8 @@ def run(words: List[str]) -> int:
         print(usage(), file=sys.stderr)
         return BAD_USE
     command = named(words[0])
+    if command is not None and words[1:] == ["--version"]:
+        return version(words)
     if command is not None:
         with lasting():
             module = command.load()
@@ -128,9 +131,15 @@ def open_closed_streams() -> None:
             setattr(sys, name, open(file, mode, encoding="utf-8", errors="replace"))
 
 
-def discard_output() -> None:
+def discard(stream: TextIO) -> None:
     """Lets what is still buffered go nowhere, so that the end says nothing of it."""
-    os.dup2(os.open(os.devnull, os.O_WRONLY), sys.stdout.fileno())
+    os.dup2(os.open(os.devnull, os.O_WRONLY), stream.fileno())
+
+
+def tell(text: str) -> None:
+    """Says a line on standard error, where that takes it."""
+    with contextlib.suppress(OSError):
+        print(text, file=sys.stderr, flush=True)
 
 
 def main(arguments: Optional[List[str]] = None) -> int:
@@ -144,16 +153,25 @@ def main(arguments: Optional[List[str]] = None) -> int:
         return 128 + signal.SIGINT
     except BrokenPipeError:
         # Whoever reads has enough.
-        discard_output()
+        discard(sys.stdout)
         return 0
     except OSError as error:
-        discard_output()
-        print(f"bunco: {error.filename + ': ' if error.filename else ''}{error.strerror or error}", file=sys.stderr)
+        discard(sys.stdout)
+        tell(f"bunco: {error.filename + ': ' if error.filename else ''}{error.strerror or error}")
         return STOPPED
     finally:
         signal.signal(signal.SIGINT, signal.SIG_DFL)
+        leave_unsaid()
         # All goes with the process: Python's collector need not look through it before.
         gc.freeze()
+
+
+def leave_unsaid() -> None:
+    """Lets what standard error has not taken go nowhere: the exit status says how the command ended."""
+    try:
+        sys.stderr.flush()
+    except OSError:
+        discard(sys.stderr)
 
 
 def flushed(status: int) -> int:
@@ -163,5 +181,5 @@ def flushed(status: int) -> int:
     except OSError:
         if status != STOPPED:
             raise
-        discard_output()
+        discard(sys.stdout)
     return status

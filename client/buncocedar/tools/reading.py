@@ -12,6 +12,7 @@ import os
 from ..errors import InUse
 from ..links import connected
 from ..shards import open_index
+from ..terminal import waits
 
 COPY = "copy.alta"
 
@@ -49,7 +50,7 @@ class Readable:
 
     def opened(self):
         """The index: until it is closed others wait for it."""
-        return open_index(self._place, patience=self._patience, on_wait=self._say)
+        return open_index(self._place, patience=self._patience, on_wait=waits(self._say))
 
 
 def is_served(path):

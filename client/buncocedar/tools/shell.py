@@ -12,7 +12,7 @@ import sys
 from ..errors import Error, QueryFault, Refused, refusal_of
 from ..replies import query_in
 from ..shards import Missing, NotAnswered, open_index
-from ..terminal import printable, quiet_end, why
+from ..terminal import printable, quiet_end, waits, why
 from .prompt import Prompt
 
 HELP = """add NAME            stores a document: title and body are asked for
@@ -93,7 +93,7 @@ def opened(options):
         options.index,
         create=options.create,
         patience=options.wait,
-        on_wait=lambda text: print(f"shell: {text}: waiting", file=sys.stderr),
+        on_wait=waits(lambda text: print(f"shell: {text}", file=sys.stderr)),
     )
 
 

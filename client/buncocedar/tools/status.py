@@ -18,7 +18,8 @@ import sys
 from ..errors import Error
 from ..fileformat import HEAD, Unusable, read_root
 from ..holders import holder
-from ..imports.stamps import Records, stamps_path
+from ..imports.stampfile import stamps_path
+from ..imports.stamps import Records
 from ..index import SECONDS_FOR_A_SERVER, Index
 from ..links import FIGURES_LINE, asked
 from ..shards import Missing, is_address, is_folder_of_shards, open_index, shard_path, shards_in
@@ -132,7 +133,7 @@ def shown(path, known):
         yield f"{path}: {known['bytes']:,} bytes, of which {known['free']:,} are free room; levels: {known['levels']}"
     if "server" in known:
         # The client that asks is one of them.
-        yield "{}: its server has {clients:,} clients, {waiting:,} lines that wait, and {cursors:,} open cursors".format(path, **known["server"])
+        yield "{}: clients of its server: {clients:,}; lines that wait: {waiting:,}; open cursors: {cursors:,}".format(path, **known["server"])
     if known["holder"]:
         yield f"{path}: open in {known['holder']}"
     for source in known["sources"]:

@@ -56,6 +56,7 @@ class View:
         self.about = self.terminal if options.about is None else options.about
         self.wanted = None
         self.path = None
+        self.leaves_out = False
         self.chosen: List[str] = []  # the names of the documents that are to be edited
 
     def needs_wanted(self):
@@ -120,7 +121,10 @@ class View:
     def grep(self, name):
         """Writes each line of a file that answers as PATH:LINE:TEXT, as editors and grep have it."""
         found = self.places.found(name)
-        text = text_at(found) if found and found.kind == "folder" else "it is no file of its own"
+        if found is None or found.kind != "folder":
+            self.leave_out(name)
+            return
+        text = text_at(found)
         if isinstance(text, str):
             print(f"find: {name}: {text}", file=sys.stderr)
             return
@@ -128,6 +132,12 @@ class View:
         path = self.given(shown_path(found.path))
         for number in self.wanted.all_lines(text.body):
             self.write(f"{path}:{number + 1}:{self.clean(lines[number])}")
+
+    def leave_out(self, name):
+        """Says once that documents are left out which are no files of their own."""
+        if not self.leaves_out:
+            self.leaves_out = True
+            print(f"find: {name}: it is no file of its own, and left out, as all such are", file=sys.stderr)
 
     def show_path(self, name):
         """Writes the file in which a document stands, once for those that stand side by side."""

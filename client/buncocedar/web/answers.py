@@ -15,6 +15,7 @@ from ..imports import archives, header
 from ..imports.stamps import Found, name_of
 from ..replies import MOST_BEST
 from ..tools.documents import Places, text_at
+from ..tools.hints import hints_of
 from ..tools.rows import Best, whole_documents
 from ..tools.matching import Wanted
 from .questions import AnyIndex, Questions
@@ -53,13 +54,17 @@ class Answer(NamedTuple):
 
 
 class Answers(NamedTuple):
-    """A page of answers: how many there are in all, and where the next page begins, empty where there is none."""
+    """A page of answers: how many there are in all, and where the next page begins, empty where there is none.
+
+    `hints` say what of the query may mean something else than who wrote it thinks.
+    """
 
     query: str
     order: str
     found: int
     rows: List[Answer]
     following: str
+    hints: List[str]
 
 
 class Fault(NamedTuple):
@@ -244,12 +249,13 @@ class Library:
             with self.questions.asked() as index:
                 wanted = Wanted(index.explain(query))
                 found, rows, following = (self._best if order == "best" else self._newest)(index, query, begin, places)
+                hints = list(hints_of(query, index.count, True))
         except QueryFault as fault:
             return Fault(fault.query, CAUSES.get(fault.cause, fault.cause), fault.place)
         except Refused as refusal:
             return Fault(query, str(refusal), None)
         until = time.monotonic() + SNIPPET_SECONDS
-        return Answers(query, order, found, [self._answer(places, wanted, until, *row) for row in rows], following)
+        return Answers(query, order, found, [self._answer(places, wanted, until, *row) for row in rows], following, hints)
 
     def _best(self, index: AnyIndex, query: str, begin: str, places: Places) -> "Tuple[int, list, str]":
         at = min(int(begin), MOST_BEST - ROWS) if begin.isdecimal() and len(begin) < 5 else 0

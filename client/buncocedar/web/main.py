@@ -14,14 +14,14 @@ from __future__ import annotations
 
 import argparse
 import ipaddress
-import os
 import signal
 import sys
 import webbrowser
 from typing import Any, List, Optional
 from urllib.parse import urlsplit
 
-from ..errors import NoFile
+from ..errors import Error, InUse
+from ..shards import open_index
 from .answers import Library
 from .questions import Questions
 from .server import Server, Site
@@ -30,17 +30,16 @@ STOPPED = 3
 
 
 def port_of(text: str) -> int:
-    port = int(text)
-    if not 0 <= port <= 65_535:
-        raise ValueError
-    return port
+    if not text.isdecimal() or len(text) > 5 or int(text) > 65_535:
+        raise argparse.ArgumentTypeError(f"{text} is no port, of 0 to 65535")
+    return int(text)
 
 
 def url_of(text: str) -> str:
     """An address of the web, with a `/` at its end."""
     parts = urlsplit(text)
     if parts.scheme not in ("http", "https") or not parts.netloc or "@" in parts.netloc or parts.query or parts.fragment:
-        raise ValueError
+        raise argparse.ArgumentTypeError(f"{text} is no address of the web, as https://example.org/mail/")
     return text if text.endswith("/") else f"{text}/"
 
 
@@ -74,6 +73,17 @@ def end(number: int, frame: Any) -> None:
     raise KeyboardInterrupt
 
 
+def refusal_of(path: str) -> str:
+    """Why there is nothing to serve at a path; empty where there is, also while somebody else has it open."""
+    try:
+        open_index(path, patience=0).close()
+    except InUse:
+        pass
+    except (Error, OSError) as error:
+        return str(error)
+    return ""
+
+
 def serve(options: argparse.Namespace, questions: Questions) -> None:
     """Serves the page until an interrupt."""
     library = Library(questions, options.source)
@@ -92,8 +102,9 @@ def serve(options: argparse.Namespace, questions: Questions) -> None:
 
 def main(arguments: Optional[List[str]] = None) -> int:
     options = parser().parse_args(arguments)
-    if not os.path.exists(options.index):
-        say(str(NoFile(options.index)))
+    refusal = refusal_of(options.index)
+    if refusal:
+        say(refusal)
         return STOPPED
     questions = Questions(options.index)
     try:

@@ -174,6 +174,7 @@ def count(number: int, word: str) -> str:
 def answers(found: Answers) -> bytes:
     """The page of some answers."""
     content = [element("p", {"class": "count"}, count(found.found, "document"))]
+    content += [element("p", {"class": "hint"}, hint) for hint in found.hints]
     if found.rows:
         content.append(element("ol", {"class": "answers"}, *(answer(row, found.query) for row in found.rows)))
     else:

@@ -4,7 +4,7 @@
 //   home, mark           what stands in an address before the fields of a query: "./" and "?", or "" and "#" where no server reads it
 //   stats(signal)        how many `documents` and `words` there are
 //   ask(fields, signal)  the answers to the query `q` in an `order` from `begin` on: how many were `found`, the `rows`, and where the
-//                        `following` page begins
+//                        `following` page begins; `hints` where the engine knows what of the query means something else elsewhere
 //   shown(fields, signal)  the document of an answer whose link leads into this page; only where there is no server
 //   failed(address, fault)  what to do where it can't be asked
 // In place of what is asked for may come a `fault`, with its `place` in the bytes of the query, or null.
@@ -17,8 +17,8 @@ const box = document.getElementById("q");
 const order = document.getElementById("order");
 const NAME = document.querySelector(".home").textContent;
 let waiting = 0;
-let asking = null;
-let shown = null; // the address that the page answers
+let asking = null; // what is asked for now, and is not there yet
+let asked = null; // the address that was asked for last, there or on its way; null where it could not be had
 
 // --- Elements.
 
@@ -46,6 +46,7 @@ function answer(row) {
 
 function answers(found, fields) {
   const parts = [element("p", { class: "count" }, several(found.found, "document"))];
+  parts.push(...(found.hints || []).map((hint) => element("p", { class: "hint" }, hint)));
   if (found.rows.length) parts.push(element("ol", { class: "answers" }, ...found.rows.map(answer)));
   else parts.push(element("p", {}, "No document has that."));
   if (found.following) {
@@ -129,15 +130,17 @@ async function show(fields) {
   if (asking) asking.abort();
   const mine = new AbortController();
   asking = mine;
+  asked = address;
   document.body.classList.add("asking");
   try {
     const [parts, title] = await page(fields, mine.signal);
     if (asking !== mine) return;
     put(parts, title);
-    shown = address;
     document.querySelector(".line.best")?.scrollIntoView({ block: "center" });
   } catch (reason) {
-    if (asking === mine && reason.name !== "AbortError") engine.failed(address, reason);
+    if (asking !== mine || reason.name === "AbortError") return;
+    asked = null;
+    engine.failed(address, reason);
   } finally {
     if (asking === mine) {
       asking = null;
@@ -154,7 +157,7 @@ function fieldsOfForm() {
 function ask() {
   clearTimeout(waiting);
   const fields = fieldsOfForm();
-  if (addressOf(fields) === shown) return;
+  if (addressOf(fields) === asked) return;
   history.replaceState(null, "", addressOf(fields));
   show(fields);
 }
@@ -176,7 +179,7 @@ order.addEventListener("change", ask);
 document.getElementById("form").addEventListener("submit", (event) => {
   event.preventDefault();
   history.pushState(null, "", addressOf(fieldsOfForm()));
-  shown = null;
+  asked = null;
   ask();
 });
 // A server has the page of each of its addresses.
