@@ -11,6 +11,7 @@ import os
 import shlex
 import subprocess
 import sys
+import tempfile
 import time
 from concurrent.futures import ThreadPoolExecutor, as_completed
 from typing import NamedTuple
@@ -29,8 +30,11 @@ def run(line, words):
     """Runs the script of a line to its end."""
     begun = time.monotonic()
     command = [sys.executable, *shlex.split(line), *words]
-    done = subprocess.run(command, stdin=subprocess.DEVNULL, stdout=subprocess.PIPE, stderr=subprocess.STDOUT)
-    return Ended(line, done.returncode, done.stdout, time.monotonic() - begun)
+    # A pipe would wait for whatever the script has left running, too.
+    with tempfile.TemporaryFile() as printed:
+        done = subprocess.run(command, stdin=subprocess.DEVNULL, stdout=printed, stderr=subprocess.STDOUT)
+        printed.seek(0)
+        return Ended(line, done.returncode, printed.read(), time.monotonic() - begun)
 
 
 def show(ended):

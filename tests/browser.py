@@ -11,7 +11,7 @@ import subprocess
 import tempfile
 import time
 
-from support import PATIENCE
+from support import PATIENCE, until
 
 CALL_SECONDS = 5  # that a call has which is tried again
 KEYS = {"Enter": (13, "\r"), "ArrowDown": (40, ""), "ArrowUp": (38, ""), "Escape": (27, ""), "/": (191, "/"), "j": (74, "j"), "k": (75, "k")}
@@ -109,9 +109,25 @@ class Browser:
     # -- The page.
 
     def open(self, address):
-        """Opens an address, and waits until it is there."""
-        self.call("Page.navigate", url=address)
-        self.until("document.readyState === 'complete' && location.href !== 'about:blank'")
+        """Opens an address, and waits until it is there: until then the page before it would answer in its place."""
+        # A place in the page that is shown already has no loader of its own.
+        loader = self.call("Page.navigate", url=address).get("loaderId")
+        until(lambda: loader in (None, self.loader()))
+        self.until("document.readyState === 'complete'")
+
+    def loader(self):
+        """What has loaded the page that is shown, by a number; empty where there is none at the moment."""
+        with contextlib.suppress(AssertionError):
+            return self.call("Page.getFrameTree", CALL_SECONDS)["frameTree"]["frame"]["loaderId"]
+        return ""
+
+    def leave(self):
+        """Leaves the page, and what the browser had to say of it. Its server may end then: nothing is asked of that any more.
+
+        A browser asks for the icon of a page when that is complete already.
+        """
+        self.open("about:blank")
+        self.events.clear()
 
     def value(self, expression, seconds=PATIENCE):
         """What an expression in the page comes to."""
@@ -150,6 +166,13 @@ class Browser:
             return self.call("DOM.getOuterHTML", CALL_SECONDS, nodeId=root)["outerHTML"]
         return ""
 
+    def has(self, selector):
+        """Whether the page has such an element, which the browser tells without a script."""
+        with contextlib.suppress(AssertionError):
+            root = self.call("DOM.getDocument", CALL_SECONDS)["root"]["nodeId"]
+            return self.call("DOM.querySelector", CALL_SECONDS, nodeId=root, selector=selector)["nodeId"] != 0
+        return False
+
     def show_as(self, width, height, scheme="light"):
         """Shows the page on a screen of this size, in the light or the dark."""
         mobile = width < 600
@@ -166,4 +189,4 @@ class Browser:
         self.value("0")
         said = [event["params"]["entry"] for event in self.events if event.get("method") == "Log.entryAdded"]
         thrown = [event["params"] for event in self.events if event.get("method") == "Runtime.exceptionThrown"]
-        return [entry["text"] for entry in said if entry["level"] == "error"] + [str(one) for one in thrown]
+        return [f"{entry['text']}: {entry.get('url')}" for entry in said if entry["level"] == "error"] + [str(one) for one in thrown]

@@ -14,7 +14,7 @@ from unittest import mock
 from urllib.parse import quote
 
 # It lets the others find the client of the checkout.
-from support import BUNCO, PATIENCE  # isort: skip
+from support import BUNCO, CLIENT, PATIENCE  # isort: skip
 
 import fake
 from buncocedar.imports import folder, stamps
@@ -28,6 +28,16 @@ Message-ID: <%s@x>
 Subject: about %s
 
 the text of %s
+"""
+# `bunco` with a folder of its own for what is made in memory: that of the machine has what others make there at the same time.
+IN_MEMORY = """\
+import runpy, sys
+bunco, client, folder = sys.argv[1:4]
+sys.path.insert(0, client)
+from buncocedar.imports import bringing
+bringing.MEMORY = folder
+sys.argv[:4] = [bunco]
+runpy.run_path(bunco, run_name="__main__")
 """
 
 
@@ -70,12 +80,13 @@ class Case(unittest.TestCase):
         with open(path, "rb") as file:
             return file.read()
 
-    def start(self, script, *words, do=None, **options):
-        """A command of `bunco` over the fake program, which does this."""
+    def start(self, script, *words, do=None, memory=None, **options):
+        """A command of `bunco` over the fake program, which does this; what it makes in memory stands in that folder, if one is named."""
         environment = {**os.environ, "BUNCOCEDAR_PROGRAM": self.program, "FAKE": json.dumps(do or {})}
         options = {"stdin": subprocess.DEVNULL, "stdout": subprocess.PIPE, "stderr": subprocess.PIPE, **options}
         # Without what is installed beside Python, which the scripts do without.
-        command = [sys.executable, "-S", BUNCO, script, *words]
+        begins = [BUNCO] if memory is None else ["-c", IN_MEMORY, BUNCO, CLIENT, memory]
+        command = [sys.executable, "-S", *begins, script, *words]
         return subprocess.Popen(command, env=environment, text=True, errors="replace", **options)
 
     def run_script(self, script, *words, do=None, expect=0, **options):

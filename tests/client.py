@@ -33,7 +33,7 @@ from support import BUNCO, CLIENT, PATIENCE, run_tests, until  # isort: skip
 
 import buncocedar
 import fake
-from buncocedar import Index, beside, errors, holders, making, texts
+from buncocedar import Index, beside, errors, exchange, holders, making, texts
 from buncocedar.exchange import LINES_UNDER_WAY
 from buncocedar.imports.stamps import name_of
 
@@ -892,6 +892,7 @@ class UnderWay(Case):
             env={**os.environ, "FAKE": json.dumps({"silent": 3, "mark": self.mark})},
             stdout=subprocess.PIPE,
         )
+        self.addCleanup(process.kill)
         until(lambda: os.path.exists(self.mark))
         self.assertEqual(process.stdout.readline(), b"waiting\n")
         process.send_signal(signal.SIGINT)
@@ -957,7 +958,7 @@ class SentAndWaitedFor(Case):
         with self.fake(silent=1, mark=self.mark) as index, Index(other, create=True, program=FAKE) as second:
             sent = [index.send_count("x"), second.send_count("x")]
             until(lambda: os.path.exists(self.mark))
-            self.assertEqual([reply.wait(0.1) for reply in sent], [False, True])
+            self.assertEqual((sent[1].wait(PATIENCE), sent[0].wait(0)), (True, False))
             index.kill()
 
     def test_a_program_that_does_not_answer(self):
@@ -968,10 +969,11 @@ class SentAndWaitedFor(Case):
         self.assertFalse(second.wait(0.2))
         self.assertFalse(index.settle(0.2))
         self.assertEqual((index.under_way(), index.ended), (1, None))
-        with self.assertRaisesRegex(buncocedar.Ended, "x.alta: gave no answer in 0.2 seconds, and was killed") as raised:
+        killed = self.assertRaisesRegex(buncocedar.Ended, "x.alta: gave no answer in 0.2 seconds, and was killed")
+        with unittest.mock.patch.object(exchange, "SECONDS_TO_END", PATIENCE), killed as raised:
             index.close(0.2)
         # Three waits of a fifth of a second: far from the seconds that a program has to end.
-        self.assertLess(time.monotonic() - begun, 4)
+        self.assertLess(time.monotonic() - begun, PATIENCE / 2)
         self.assertEqual(raised.exception.status, -signal.SIGKILL)
         self.assertEqual((first.result(), second.answered, second.settled), (1, False, True))
         self.assertIsInstance(index.ended, buncocedar.Ended)

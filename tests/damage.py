@@ -19,6 +19,7 @@ import os
 import random
 import re
 import resource
+import signal
 import subprocess
 import sys
 import tempfile
@@ -31,8 +32,9 @@ from model.held import Held, empty_file, slot_bytes
 from model.reading import HALF, HALVES, HEAD, LEVELS, NOTHING, OLD_PAYLOAD, SLOT, SLOTS, TEXTS, Add, Delete, Extent, NoIndex, Root, opened
 from model.segments import Broken, segment, stream
 from model.writing import entry_of_add, entry_of_delete, entry_of_replace, journal, level
+from support import PATIENCE
 
-LIMIT = 10  # seconds that a run may take
+LIMIT = 10  # seconds of the processor that a run may take, however busy that is
 MEMORY = 2**30  # bytes that it may have where a file is longer
 SHOWN = 5  # cases that are told in full
 # the statuses of a run, and the lines that may come with each
@@ -244,8 +246,11 @@ class Trial:
             file.write(case.content)
         lines = "".join(line + "\n" for line in case.lines).encode()
         try:
-            done = subprocess.run([self.program, self.path, "run"], input=lines, capture_output=True, timeout=LIMIT)
+            words = [self.program, self.path, "run"]
+            done = subprocess.run(words, input=lines, capture_output=True, timeout=PATIENCE, preexec_fn=in_little_time)
         except subprocess.TimeoutExpired:
+            return None
+        if done.returncode == -signal.SIGXCPU:
             return None
         with open(self.path, "rb") as file:
             content = file.read()
@@ -274,7 +279,7 @@ class Trial:
 def fault_of(wanted, came, is_known):
     """Where an answer is not the one that has to come."""
     if came is None:
-        return f"no end within {LIMIT} seconds"
+        return f"no end within {LIMIT} seconds of the processor"
     if came.status not in TABLE or not re.fullmatch(TABLE[came.status], came.said):
         return f"status {came.status} with {came.said!r} is none of the table"
     if (came.status, came.said) != (wanted.status, wanted.said):
@@ -759,7 +764,12 @@ def written_index(program, folder, chance, name):
 # ---- a file that is longer than memory
 
 
+def in_little_time():
+    resource.setrlimit(resource.RLIMIT_CPU, (LIMIT, LIMIT + 1))
+
+
 def in_little_memory():
+    in_little_time()
     resource.setrlimit(resource.RLIMIT_AS, (MEMORY, MEMORY))
 
 
@@ -771,7 +781,7 @@ def try_long(trial):
         file.write(slot_bytes(root))
         file.truncate(HEAD + length)
     words = [trial.program, trial.path, "run"]
-    done = subprocess.run(words, input=b"stats\n", capture_output=True, timeout=LIMIT, preexec_fn=in_little_memory)
+    done = subprocess.run(words, input=b"stats\n", capture_output=True, timeout=PATIENCE, preexec_fn=in_little_memory)
     os.remove(trial.path)
     came = (done.returncode, done.stderr.decode(errors="replace"))
     if came not in ((5, "alta: out of memory\n"), (6, f"alta: damaged at {HEAD}\n")) or done.stdout:

@@ -18,6 +18,7 @@ import tempfile
 
 from model.answers import Machine, spelled
 from model.held import Held, empty_file
+from support import PATIENCE
 
 USAGE = "alta: usage: alta_cli PATH init | run | demo N\n"
 EVEN = ("word", "even")
@@ -71,7 +72,7 @@ def content_of(path):
 
 def try_words(program, path, words, status, said, given, file):
     """Runs the program with these words: status, the line on standard error, what is printed, and the file behind it."""
-    done = subprocess.run([program, path, *words], stdin=subprocess.DEVNULL, capture_output=True, timeout=120)
+    done = subprocess.run([program, path, *words], stdin=subprocess.DEVNULL, capture_output=True, timeout=PATIENCE)
     came = (done.returncode, done.stderr.decode(), done.stdout.decode())
     if came != (status, said, given):
         raise SystemExit(f"demo: {' '.join(words)} ends with {came} in place of {(status, said, given)}")

@@ -17,11 +17,12 @@ import tempfile
 import time
 import unittest
 
+from support import PATIENCE
+
 HERE = os.path.dirname(os.path.abspath(__file__))
 PROGRAM = None
 DEVICE = None  # the library of the device, where it could be built
 HEAD = 2_105_344  # bytes before the first level
-PATIENCE = 60  # seconds after which what should have come counts as missing
 NOBODY = 65534
 LONG = "x y " * 2500  # a text that fills more than two pages
 ADDS = [f"add a\t\tone {LONG}", "flush", f"add b\t\ttwo {LONG}", "flush", "merge"]

@@ -241,8 +241,9 @@ def run(path):
             print(f"fake: {len(line)} bytes", file=sys.stderr, flush=True)
         if "silent" in DO and given >= DO["silent"]:
             make_mark()
-            while True:
-                time.sleep(60)
+            # Where whoever started it is killed, nobody ends it.
+            time.sleep(3600)
+            end(2)
         last = "end" in DO and given >= DO["end"][0]
         if last and not DO.get("done"):
             end(DO["end"][1])

@@ -1454,6 +1454,12 @@ class RealProgram(Case):
         self.assertEqual(len(self.found("x")), 16)
         self.assertIn("200 documents: 0 added, 200 unchanged\n", self.run_script("mail", self.path, path))
 
+    def memory(self):
+        """A folder in which an import may make an index, and nobody else."""
+        folder = tempfile.TemporaryDirectory()
+        self.addCleanup(folder.cleanup)
+        return folder.name
+
     def test_made_beside(self):
         path = self.mailbox(50, 1000)
         said = self.run_script("mail", "--fast", self.path, path)
@@ -1472,11 +1478,11 @@ class RealProgram(Case):
         self.assertTrue(os.path.islink(self.at("link")) and os.path.getsize(self.at("z.alta")))
         # An interrupt keeps what was done.
         self.path = self.at("y.alta")
-        process = self.start("packages", "--fast", self.path, stdin=subprocess.PIPE)
+        memory = self.memory()
+        process = self.start("packages", "--fast", self.path, memory=memory, stdin=subprocess.PIPE)
         process.stdin.write("".join(f"Package: p{i}\nDescription: letter {i}\n\n" for i in range(5)))
         process.stdin.flush()
-        pattern = os.path.join(bringing.MEMORY if os.path.isdir(bringing.MEMORY) else tempfile.gettempdir(), "buncocedar-*/index.alta")
-        until(lambda: any(b"letter 4" in self.read(beside) for beside in glob.glob(pattern)))
+        until(lambda: any(b"letter 4" in self.read(beside) for beside in glob.glob(f"{memory}/{bringing.BESIDE}*/index.alta")))
         self.assertFalse(os.path.exists(self.path))
         process.send_signal(signal.SIGINT)
         self.assertIn("5 documents: 5 added\n", process.communicate(timeout=PATIENCE)[1])
@@ -1484,20 +1490,20 @@ class RealProgram(Case):
         self.assertEqual(len(self.found("letter")), 5)
 
     def test_what_an_import_left_that_was_killed(self):
-        beside = os.path.join(bringing.memory_folder(), bringing.BESIDE + "*")
-        others = set(glob.glob(beside))
-        process = self.start("packages", "--fast", self.path, stdin=subprocess.PIPE)
+        memory = self.memory()
+        beside = f"{memory}/{bringing.BESIDE}*"
+        process = self.start("packages", "--fast", self.path, memory=memory, stdin=subprocess.PIPE)
         process.stdin.write("Package: p\nDescription: letter\n\n")
         process.stdin.flush()
         until(lambda: any(b"letter" in self.read(index) for index in glob.glob(beside + "/index.alta")))
-        (left,) = set(glob.glob(beside)) - others
+        (left,) = glob.glob(beside)
         process.kill()
         process.communicate()
         self.assertTrue(os.path.exists(left))
         self.write(".making-abcdefgh/index.alta", "half")
         self.write(".making-abcdefgh/lock", "")
         status = self.write("status", "Package: q\nDescription: letter\n")
-        said = self.run_script("packages", "--fast", self.path, status)
+        said = self.run_script("packages", "--fast", self.path, status, memory=memory)
         self.assertIn(f"packages: {left} is taken away: an import that was killed has left it\n", said)
         self.assertFalse(os.path.exists(left))
         self.assertEqual(self.found("letter"), ["1 q"])

@@ -217,7 +217,8 @@ def main():
     rounds = 0
     with tempfile.TemporaryDirectory() as folder:
         check = Check(options.program, folder)
-        while rounds < options.rounds and time.monotonic() - begun < options.seconds:
+        # Where the machine is slow, the time is not the end before a run was killed.
+        while rounds < options.rounds and (time.monotonic() - begun < options.seconds or not check.killed):
             check.round(chance, STYLES[rounds % len(STYLES)])
             rounds += 1
             if check.machine.next_number > MOST:

@@ -14,12 +14,11 @@ import time
 import unittest
 
 # It lets the others find the client of the checkout.
-from support import CLIENT  # isort: skip
+from support import CLIENT, PATIENCE  # isort: skip
 
 from buncocedar import DiskFault, Index, InUse
 
 PROGRAM = None
-PATIENCE = 60  # seconds after which what should have come counts as missing
 IN_USE = (2, "", "alta: disk fault\nalta: flock: another program has the file open\n")
 
 # A client that adds so many documents, opening the index anew for each. It waits as long as the others need.

@@ -37,6 +37,7 @@ from typing import NamedTuple
 from model.answers import Machine
 from model.reading import HALVES, OPEN, SLOT, SLOTS, Extent, NoIndex, opened
 from model.writing import entry_of_add, index
+from support import PATIENCE
 
 LINES = [
     "add a\tRed Fox\tthe quick red fox",
@@ -68,7 +69,6 @@ GOING_ON = ["stats", "add z\t\tlast dog", "flush", "delete z", "count dog"]  # w
 QUERIES = [("word", "dog")]
 ASKING = ["stats", "dump"]
 SECTOR = 512
-PATIENCE = 120  # seconds that the program may take for one image
 
 
 # ---- what the program was seen to do

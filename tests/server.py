@@ -320,10 +320,17 @@ class Ends(Case):
         connection = self.raw()
         connection.sendall(b"stats\n")
         until(lambda: os.path.exists(mark))
-        for _ in range(2):
+        server.send_signal(signal.SIGINT)
+        time.sleep(0.2)
+
+        def is_ended():
+            # Two signals that wait at the same time are one for the system: then it takes another one.
             server.send_signal(signal.SIGINT)
-            time.sleep(0.2)
-        self.assertEqual(server.wait(PATIENCE), 3)
+            with contextlib.suppress(subprocess.TimeoutExpired):
+                return server.wait(30) is not None
+
+        until(is_ended)
+        self.assertEqual(server.returncode, 3)
         server.communicate()
         self.assertIn(b"! ended -9", connection.makefile("rb").read())
 

@@ -5,6 +5,7 @@ import unittest
 from tempfile import TemporaryDirectory
 
 import fake
+from support import PATIENCE
 
 from buncocedar.shards import ShardedIndex, Shelf, make, shard_of
 from buncocedar.shards.places import Here
@@ -29,7 +30,7 @@ class Case(unittest.TestCase):
     def make(self, folder, shards, **words):
         return make(folder, shards, program=self.runs, **words)
 
-    def open(self, folder=None, patience=20.0, **words):
+    def open(self, folder=None, patience=PATIENCE, **words):
         return ShardedIndex.here(folder or self.folder, program=self.runs, patience=patience, **words)
 
     def filled(self, shards=4):

@@ -54,7 +54,8 @@ from buncocedar.shards import (
 from buncocedar.shards.folder import write_settings
 from buncocedar.shards.places import Fixed
 
-LATE = 15  # seconds in which a call over a shard that hangs is back, whose patience is half a second: without an end it takes more
+HANGING = 3.0  # seconds that shards have where one hangs: the others answer in far less, also on a busy machine
+LATE = 60  # seconds in which a call over a shard that hangs is back: without an end it takes more
 
 
 class Names(unittest.TestCase):
@@ -350,7 +351,7 @@ class Failures(Case):
 
     def test_a_program_hangs(self):
         index = self.filled()
-        give(index, 0.5)
+        give(index, HANGING)
         process = process_of(index, 1)
         process.send_signal(signal.SIGSTOP)
         begun = time.monotonic()
@@ -366,14 +367,14 @@ class Failures(Case):
         self.assertLessEqual({name for name in outcomes if shard_of(name, 4) == 1}, lost)
         self.assertLess(time.monotonic() - begun, LATE)
         process.send_signal(signal.SIGCONT)
-        give(index, 20.0)
+        give(index, PATIENCE)
         self.assertEqual(index.count("fox"), 340 - len(lost))
         index.close()
 
     def test_a_program_that_hangs_in_changes(self):
         # More lines than may be under way: nothing waits for it without an end, and no line is sent behind one that was not answered.
         index = self.filled()
-        give(index, 0.5)
+        give(index, HANGING)
         process = process_of(index, 1)
         process.send_signal(signal.SIGSTOP)
         begun = time.monotonic()
@@ -388,13 +389,13 @@ class Failures(Case):
             with self.assertRaises(Missing):
                 index.count("fox")
         process.send_signal(signal.SIGCONT)
-        give(index, 20.0)
+        give(index, PATIENCE)
         self.assertIn(index.count("violet"), range(1000 - len(lost), 1001))
         index.close()
 
     def test_an_end_while_a_program_hangs(self):
         index = self.filled()
-        give(index, 0.5)
+        give(index, HANGING)
         process_of(index, 1).send_signal(signal.SIGSTOP)
         begun = time.monotonic()
         with self.assertRaisesRegex(Error, "gave no answer"):
@@ -411,18 +412,18 @@ class Failures(Case):
         with open(slow, "w") as file:
             file.write(f'#!/bin/sh\ncase "$1" in *00002*) until [ -e {go} ]; do sleep 0.05; done;; esac\nexec {self.runs} "$@"\n')
         os.chmod(slow, 0o755)
-        with ShardedIndex.here(self.folder, program=slow, patience=2.0) as index:
+        with ShardedIndex.here(self.folder, program=slow, patience=2 * HANGING) as index:
             with self.assertRaisesRegex(Missing, "shard 2 is being opened") as raised:
                 index.count("fox")
             self.assertEqual(raised.exception.answer, 300 - ours(2))
             open(go, "w").close()
-            give(index, 20.0)
+            give(index, PATIENCE)
             self.assertEqual(index.count("fox"), 300)
 
     def test_a_shard_that_another_one_has_open(self):
         self.filled().close()
         with Index(shard_path(self.folder, 0), program=self.runs):
-            with self.open(patience=4.0) as index:
+            with self.open(patience=2 * HANGING) as index:
                 with self.assertRaises(Missing) as raised:
                     index.stats()
                 self.assertEqual(list(raised.exception.shards), [0])
@@ -448,7 +449,7 @@ class Failures(Case):
             with self.assertRaises(NotHere):
                 index.add(name, "", "")
             os.rename(self.folder + "-kept", shard_path(self.folder, 3))
-            give(index, 20.0)
+            give(index, PATIENCE)
             self.assertEqual(index.count("fox"), 300)
 
     def test_a_file_is_damaged(self):

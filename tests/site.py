@@ -94,9 +94,10 @@ class Case(unittest.TestCase):
         self.path = os.path.join(self.folder, "x.alta")
         self.site = os.path.join(self.folder, "site")
         variables = {"BUNCOCEDAR_PROGRAM": PROGRAM, "BUNCOCEDAR_MODULE": MODULE or self.write("none.wasm", "\0asm\1\0\0\0")}
-        patched = unittest.mock.patch.dict(os.environ, variables)
-        patched.start()
-        self.addCleanup(patched.stop)
+        # On a busy machine two seconds are none.
+        for patched in (unittest.mock.patch.dict(os.environ, variables), unittest.mock.patch("buncocedar.web.answers.SNIPPET_SECONDS", PATIENCE)):
+            patched.start()
+            self.addCleanup(patched.stop)
 
     def write(self, name, text):
         path = os.path.join(self.folder, name)
@@ -334,7 +335,7 @@ class InNode(Case):
         return node
 
     def library(self):
-        questions = Questions(self.path)
+        questions = Questions(self.path, seconds=PATIENCE)
         self.addCleanup(questions.close)
         return Library(questions)
 
@@ -543,8 +544,8 @@ class InABrowser(Case):
         return f"http://127.0.0.1:{server.server_port}/"
 
     def begin(self, address, wanted="document.querySelector('.count') && !document.getElementById('progress')"):
-        self.browser.open("about:blank#" + address[-8:])
-        self.browser.events.clear()
+        self.browser.leave()
+        self.addCleanup(self.browser.leave)
         self.browser.show_as(1000, 700)
         self.browser.open(address)
         self.browser.until(wanted)

@@ -2,6 +2,7 @@
 
 import faulthandler
 import os
+import signal
 import subprocess
 import sys
 import time
@@ -13,6 +14,8 @@ BUNCO = os.path.join(TOP, "bunco")
 PATIENCE = 300  # seconds after which what should have come counts as missing
 
 sys.path.insert(0, CLIENT)
+# What a shell starts in the background takes no interrupt, and nothing that it starts does.
+signal.signal(signal.SIGINT, signal.default_int_handler)
 
 
 def until(done):

@@ -115,10 +115,12 @@ class Case(unittest.TestCase):
         self.addCleanup(folder.cleanup)
         self.folder = folder.name
         self.path = os.path.join(folder.name, "x.alta")
-        # On a busy machine two seconds are none.
+        # On a busy machine some seconds are none.
         for patched in (
             unittest.mock.patch.dict(os.environ, {"BUNCOCEDAR_PROGRAM": PROGRAM}),
             unittest.mock.patch.object(answers, "SNIPPET_SECONDS", PATIENCE),
+            unittest.mock.patch("buncocedar.web.questions.TURN_SECONDS", PATIENCE),
+            unittest.mock.patch.object(web.Handler, "timeout", PATIENCE),
         ):
             patched.start()
             self.addCleanup(patched.stop)
@@ -148,7 +150,7 @@ class Case(unittest.TestCase):
 
     def site(self, url="", **options):
         """A page over the index, served by a thread of this process."""
-        questions = Questions(self.path, **{"patience": 0.2, **options})
+        questions = Questions(self.path, **{"patience": 0.2, "seconds": PATIENCE, **options})
         self.addCleanup(questions.close)
         server = web.Server(("127.0.0.1", 0), web.Site(Library(questions)), url, self.said.append)
         thread = threading.Thread(target=server.serve_forever, kwargs={"poll_interval": 0.02})
@@ -442,10 +444,9 @@ class Limits(Case):
             self.assertEqual(self.connect().recv(100), b"")
         self.assertEqual(self.said, [])
 
-    def test_a_client_that_sends_a_byte_now_and_then(self):
-        self.many(1)
-        with unittest.mock.patch.object(web.Handler, "timeout", 0.5):
-            self.site()
+    def sent_in(self, seconds):
+        """How many bytes a client sends, one now and then, before it is told the end: a server waits so many seconds for a request."""
+        with unittest.mock.patch.object(web.Handler, "timeout", seconds):
             connection = self.connect()
             connection.setblocking(False)
             sent = 0
@@ -460,7 +461,13 @@ class Limits(Case):
 
             with contextlib.suppress(ConnectionError):
                 until(is_ended)
-        self.assertGreater(sent, 5)
+        return sent
+
+    def test_a_client_that_sends_a_byte_now_and_then(self):
+        self.many(1)
+        self.site()
+        # Where the machine is busy, it may not come to send so many in half a second.
+        self.assertTrue(any(self.sent_in(0.5 * 4**trial) > 5 for trial in range(4)))
         self.assertEqual(self.said, [])
 
     def test_a_client_that_has_gone(self):
@@ -555,6 +562,7 @@ class Sharing(Case):
                     index.stats()
                     index.stats()
         self.assertIn("more than 0.5 seconds", str(raised.exception))
+        questions.seconds = PATIENCE
         with questions.asked() as index:
             self.assertEqual(index.stats().documents, 1)
 
@@ -615,7 +623,7 @@ class InABrowser(Case):
     def begin(self, target="/"):
         self.filled()
         server = self.site()
-        self.browser.events.clear()
+        self.addCleanup(self.browser.leave)
         self.browser.show_as(1000, 700)
         self.browser.open(f"{server.address()[:-1]}{target}")
         return self.browser
@@ -693,6 +701,7 @@ class InABrowser(Case):
 
     def test_a_fault_as_one_types(self):
         browser = self.begin()
+        browser.until("document.activeElement.id === 'q'")
         browser.type("fault 8 Paren x)")
         browser.until("document.querySelector('pre.fault') !== null")
         self.assertEqual(browser.value("document.activeElement.id"), "q")
@@ -711,7 +720,7 @@ class InABrowser(Case):
         browser.call("Emulation.setScriptExecutionDisabled", value=True)
         try:
             browser.call("Page.navigate", url=f"http://127.0.0.1:{self.port}/?order=newest")
-            until(lambda: 'value="newest" selected' in browser.html())
+            until(lambda: 'value="newest" selected' in browser.html() and browser.has("#q:focus"))
             browser.type("quick")
             browser.press("Enter")
             until(lambda: "The <mark>quick</mark> red fox" in browser.html())
@@ -730,6 +739,7 @@ class InABrowser(Case):
         self.bunco("mail", self.path, self.write("mail.mbox", PICTURED))
         self.bunco("folder", self.path, os.path.dirname(self.write("notes/garden.txt", "sow peas\nthe fox was at the fence again\n")))
         address, browser = self.site().address(), self.browser
+        self.addCleanup(browser.leave)
         browser.show_as(900, 560)
         browser.open(f"{address}?q=fox&order=newest")
         browser.picture(os.path.join(folder, "web-answers.png"))

@@ -27,6 +27,7 @@ from damage import QUERIES, difference
 from model.held import Held, empty_file
 from model.reading import NoIndex, opened
 from model.segments import Broken
+from support import PATIENCE
 
 WORDS = ["red", "Fox", "quick", "brown", "dog", "lazy", "Over", "fox", "7", "1996", "4294967295", "007"]
 NAMES = "abcdefghijkl"
@@ -105,7 +106,7 @@ class Round:
         self.lines, self.runs = lines, self.runs + 1
         given = "".join(self.wanted(lines))
         text = "".join(line + "\n" for line in lines).encode()
-        done = subprocess.run([self.program, self.path, "run"], input=text, capture_output=True, timeout=60)
+        done = subprocess.run([self.program, self.path, "run"], input=text, capture_output=True, timeout=PATIENCE)
         if done.returncode != 0 or done.stderr:
             self.fail(f"status {done.returncode} with {done.stderr.decode()!r}")
         if done.stdout.decode() != given:

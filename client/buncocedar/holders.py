@@ -95,12 +95,12 @@ class Waiting:
     def is_over(self):
         """Waits a moment, and tells whether that was the last one."""
         waited = time.monotonic() - self.begun
-        if waited >= SECONDS_OF_SILENCE:
+        # A look may take longer than the wait has left: what is told hangs on the patience alone.
+        if min(waited, self.patience) >= SECONDS_OF_SILENCE:
             self.tell()
         if waited < self.patience:
             time.sleep(0.02)
         return waited >= self.patience
-
 
     def tell(self):
         """Says once who is waited for."""

@@ -529,11 +529,12 @@ def locked_file(path, patience=0.0, on_wait=lambda why: None):
             return handle
         os.close(handle)
         waited = time.monotonic() - begun
-        if waited >= patience:
-            raise InUse(why)
-        if waited >= SECONDS_OF_SILENCE and not is_said:
+        # What is told hangs on the patience alone, and not on how long a look takes.
+        if min(waited, patience) >= SECONDS_OF_SILENCE and not is_said:
             is_said = True
             on_wait(why)
+        if waited >= patience:
+            raise InUse(why)
         time.sleep(0.05)
 
 
