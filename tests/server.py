@@ -437,10 +437,28 @@ class Ends(Case):
             listener.listen()
             thread = threading.Thread(target=serve, args=[listener])
             thread.start()
-            with unittest.mock.patch.object(copying, "SECONDS_BETWEEN_LOOKS", 0.05), open(os.devnull, "wb") as file:
-                self.assertEqual(copying.copy_into(self.path, file), copying.Copied(5, [1, 2]))
+            # The program works meanwhile.
+            working = unittest.mock.patch.multiple(copying, SECONDS_BETWEEN_LOOKS=0.05, work_of=lambda number: time.monotonic())
+            with working, open(os.devnull, "wb") as file:
+                self.assertEqual(copying.copy_into(self.path, file, 0), copying.Copied(5, [1, 2]))
             thread.join(PATIENCE)
         self.assertEqual(told, [b"copy\n", *3 * [b"figures\n"]])
+
+    def test_a_copy_under_a_program_that_is_stopped(self):
+        """It is not waited for without end, though the server answers others."""
+        mark = os.path.join(self.folder, "mark")
+        server = self.serve(silent=1, mark=mark)
+        self.raw().sendall(b"stats\n")
+        until(lambda: os.path.exists(mark))
+        with open(mark) as file:
+            program = int(file.read())
+        os.kill(program, signal.SIGSTOP)
+        said = f"open in process {program} .*, stopped .kill -CONT {program} lets it go on.* makes no copy"
+        with unittest.mock.patch.object(copying, "SECONDS_BETWEEN_LOOKS", 0.05), open(os.devnull, "wb") as file:
+            with self.assertRaisesRegex(copying.NotHad, said):
+                copying.copy_into(self.path, file, 0.2)
+        os.kill(program, signal.SIGKILL)
+        self.assertEqual(server.wait(PATIENCE), 3)
 
     def test_what_is_no_end(self):
         # A file that can't be read, and a program that is too old to join levels: the server goes on.

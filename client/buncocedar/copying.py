@@ -11,6 +11,7 @@ import re
 import shutil
 import socket
 import stat
+import struct
 import time
 from typing import List, NamedTuple
 
@@ -19,6 +20,7 @@ from .fileformat import HALF, HEAD, SLOT, Unusable, read_journal, read_root
 from .imports.stampfile import JOURNAL, stamps_path
 from .imports.stamps import Records
 from .errors import InUse
+from .holders import in_use, owner_of, work_of
 from .links import FIGURES_LINE, SECONDS_TO_CONNECT, asked, connected
 
 CHUNK = 1 << 20
@@ -94,12 +96,13 @@ class Copied(NamedTuple):
 def copy_into(path, target, patience=10.0):
     """Writes the index at a path into an open file, without its holes: by its server, or while nobody has it open.
 
-    Raises `Unusable` where it is damaged, no plain file, or in use for longer than so many seconds, and where its server does not answer.
+    Raises `Unusable` where it is damaged, no plain file, or in use for longer than so many seconds. So it does where its server does not
+    answer, and where nothing goes on there for so many seconds, as under a program that is stopped.
     """
     try:
         service = connected(path)
         if service is not None:
-            return served_copy(path, service, target)
+            return served_copy(path, service, target, patience)
     except InUse as fault:
         raise NotHad(str(fault)) from None
     with locked(path, patience) as file:
@@ -108,13 +111,13 @@ def copy_into(path, target, patience=10.0):
         return Copied(target.tell(), [extent.place for extent in root.extents()])
 
 
-def served_copy(path, service, target):
-    """Has the server behind a link write its index into an open file; raises `InUse` where it does not answer others either."""
+def served_copy(path, service, target, patience):
+    """Has the server behind a link write its index into an open file; raises `InUse` as `late_line` does."""
     with service.connection as connection:
         try:
             connection.settimeout(SECONDS_BETWEEN_LOOKS)
             socket.send_fds(connection, [b"copy\n"], [target.fileno()])
-            reply = late_line(path, connection).decode(errors="replace").rstrip("\n")
+            reply = late_line(path, connection, target, patience).decode(errors="replace").rstrip("\n")
         except ConnectionError:
             reply = ""
     if reply.startswith(NO_COPY):
@@ -126,10 +129,19 @@ def served_copy(path, service, target):
     return Copied(int(told[1]), list(map(int, told[2].split())))
 
 
-def late_line(path, connection):
-    """The line that comes from the server of an index, however long its work takes, as long as it answers another client."""
+def late_line(path, connection, target, patience):
+    """The line that comes from the server of an index, however long its work takes.
+
+    Raises `InUse` where it does not answer another client, and where for so many seconds nothing shows that anything goes on.
+    """
     line = b""
+    seen, until = None, 0.0
     while not line.endswith(b"\n"):
+        found = signs(path, connection, target)
+        if found != seen:
+            seen, until = found, time.monotonic() + patience
+        elif time.monotonic() >= until:
+            raise InUse(f"{in_use(path)}: its server makes no copy, and neither of the two has worked for {patience:g} seconds")
         try:
             piece = connection.recv(CHUNK)
         except socket.timeout:
@@ -139,6 +151,12 @@ def late_line(path, connection):
             break
         line += piece
     return line
+
+
+def signs(path, connection, target):
+    """What changes while a server makes a copy, or what is before it: the size of the copy, and the work of the program and of the server."""
+    server, _, _ = struct.unpack("3i", connection.getsockopt(socket.SOL_SOCKET, socket.SO_PEERCRED, struct.calcsize("3i")))
+    return os.fstat(target.fileno()).st_size, work_of(owner_of(path)), work_of(server)
 
 
 def sync_folder(path):

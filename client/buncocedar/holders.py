@@ -20,6 +20,8 @@ from .errors import InUse
 from .texts import printable_line
 
 SECONDS_OF_SILENCE = 0.5  # of a wait for an index that is in use, before it is told
+STOPPED, WAITS_FOR_ITS_DISK = "TD"  # states of a process, as the system names them
+TICKS_OF_WORK = 10  # hundredths of a second of the processor
 TURN = ".turn.alta"  # how the name of the file ends whose lock is the turn to open an index; no import takes such a file in
 
 
@@ -31,7 +33,7 @@ def turn(path, waits=False):
     the lock of an empty file beside the index until its program has that, and takes it away then. Where none can be made it
     is the lock of the folder, and where there are no locks it is always its turn.
     """
-    if waits and _owner(path) is not None:
+    if waits and owner_of(path) is not None:
         # Who waits looks time and again, and makes no file each time. The system may take ten milliseconds to list its locks.
         yield False
         return
@@ -123,11 +125,11 @@ def in_use(path):
 
 def holder(path: str) -> Optional[str]:
     """Which process has the index open, by whom it was started and since when, in words; None where the system tells none."""
-    owner = _owner(path)
+    owner = owner_of(path)
     return None if owner is None else _process_words(owner)
 
 
-def _owner(path):
+def owner_of(path):
     """The number of the process that has locked the file, None where the system tells none."""
     try:
         found = os.stat(path)
@@ -140,19 +142,35 @@ def _owner(path):
     return next((owner for owner in owners if owner > 0), None)
 
 
-def _process_words(number):
-    """A process in words: its number, its command, since when it runs, and what has started it."""
+def work_of(number):
+    """What changes while a process works, or waits for its disk; None where the system tells nothing of it."""
     try:
-        with open(f"/proc/{number}/stat", encoding="utf-8", errors="replace") as file:
-            fields = file.read().rpartition(")")[2].split()
+        fields = _fields_of(number)
+    except OSError:
+        return None
+    # Its own time of the processor, and the system's for it. What a question costs is no work.
+    return time.monotonic() if fields[0] == WAITS_FOR_ITS_DISK else (int(fields[11]) + int(fields[12])) // TICKS_OF_WORK
+
+
+def _fields_of(number):
+    """What the system tells of a process, from its state on."""
+    with open(f"/proc/{number}/stat", encoding="utf-8", errors="replace") as file:
+        return file.read().rpartition(")")[2].split()
+
+
+def _process_words(number):
+    """A process in words: its number, its command, since when it runs, whether it is stopped, and what has started it."""
+    try:
+        fields = _fields_of(number)
         with open("/proc/uptime", encoding="ascii") as file:
             booted = time.time() - float(file.read().split()[0])
     except OSError:
         return f"process {number}"
     began = time.localtime(booted + int(fields[19]) / os.sysconf("SC_CLK_TCK"))
     parent = int(fields[1])
+    stopped = f", stopped (kill -CONT {number} lets it go on)" if fields[0] == STOPPED else ""
     starter = f", started by process {parent} ({_command_words(parent)})" if parent > 1 else ""
-    return f"process {number} ({_command_words(number)}) since {time.strftime('%Y-%m-%d %H:%M:%S', began)}{starter}"
+    return f"process {number} ({_command_words(number)}) since {time.strftime('%Y-%m-%d %H:%M:%S', began)}{stopped}{starter}"
 
 
 def _command_words(number):
