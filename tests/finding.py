@@ -7,6 +7,7 @@ Without --program the tests of the real program are left out, and that is said.
 """
 
 import contextlib
+import io
 import json
 import os
 import pty
@@ -28,9 +29,10 @@ import fake
 from buncocedar import Index, InUse
 from buncocedar.imports.stampfile import has_none_in_parts, stamps_path
 from buncocedar.imports.stamps import Stamp, Stamps, part_name
-from buncocedar.tools import hints, reading
+from buncocedar.tools import dump, hints, reading, shell, status
 from buncocedar.tools.documents import Places
 from buncocedar.tools.rows import whole_documents
+from buncocedar.web.questions import Questions
 
 FAKE = fake.installed()
 PROGRAM = None
@@ -413,7 +415,54 @@ class RealProgram(Case):
                 with self.index(), self.assertRaises(InUse):
                     reading.Readable(self.path, 0, said.append).__enter__()
         self.assertEqual(read(self.path), before)
-        self.assertIn("may not be written: a private copy of it is searched", said[0])
+        self.assertIn("may not be written: a private copy of it is read", said[0])
+
+    def test_commands_that_read_a_file_that_may_not_be_written(self):
+        with self.index() as index:
+            index.add("a", "Fox", "red fox")
+        before = read(self.path)
+        for command, lines, ends, shown, said in (
+            (dump, "", 0, "add a\tfox\tred fox\n", "is read"),
+            (status, "", 0, f"{self.path}: 1 documents of 3 words", "is read"),
+            (shell, "count fox\nstats\n", 0, "found 1\ndocuments 1 ", "is read"),
+            (shell, "add b\t\tfox\nmerge\ncount fox\n", 1, "found 1\n", f"! {self.path} may not be written, and takes no add\n! "),
+        ):
+            with self.subTest(command=command.__name__, lines=lines), self.for_reading_only():
+                given, out = io.TextIOWrapper(io.BytesIO(lines.encode())), io.TextIOWrapper(io.BytesIO())
+                with mock.patch.multiple(sys, stdin=given, stdout=out), contextlib.redirect_stderr(io.StringIO()) as told:
+                    self.assertEqual(command.main([self.path]), ends, told.getvalue())
+                    out.flush()
+                self.assertIn(shown, out.buffer.getvalue().decode())
+                self.assertIn(f"{self.path} may not be written: a private copy of it is read", told.getvalue())
+                self.assertIn(said, told.getvalue())
+        self.assertEqual(read(self.path), before)
+
+    def test_a_page_of_a_file_that_may_not_be_written(self):
+        with self.index() as index:
+            index.add("a", "", "red fox")
+        told = []
+
+        def count():
+            with questions.asked() as index:
+                return index.count("fox")
+
+        with self.for_reading_only(), contextlib.closing(Questions(self.path, idle=0.002, say=told.append)) as questions:
+            self.assertEqual((questions.refusal(), count(), len(told)), ("", 1, 1))
+            # Who may write it goes on, and what it adds is seen by another copy.
+            with self.index() as index:
+                self.assertEqual(count(), 1)
+                index.add("b", "", "fox")
+            until(lambda: count() == 2)
+            self.assertEqual(len(told), 2)
+            folder = os.path.dirname(questions._place)
+            self.assertEqual(os.listdir(folder), [reading.COPY])
+        self.assertFalse(os.path.exists(folder))
+
+    @contextlib.contextmanager
+    def for_reading_only(self):
+        """The test may be run by who may write each file."""
+        with mock.patch.object(reading, "is_for_reading_only", lambda path: path == self.path), mock.patch.dict(os.environ, BUNCOCEDAR_PROGRAM=PROGRAM):
+            yield
 
     def test_packages_by_words_of_their_names(self):
         named = {

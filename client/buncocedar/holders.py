@@ -20,7 +20,8 @@ from .errors import InUse
 from .texts import printable_line
 
 SECONDS_OF_SILENCE = 0.5  # of a wait for an index that is in use, before it is told
-STOPPED, WAITS_FOR_ITS_DISK = "TD"  # states of a process, as the system names them
+STOPPED = "T"  # states of a process, as the system names them
+WAITS_FOR_ITS_DISK = "D"
 TICKS_OF_WORK = 10  # hundredths of a second of the processor
 TURN = ".turn.alta"  # how the name of the file ends whose lock is the turn to open an index; no import takes such a file in
 

@@ -1,7 +1,8 @@
 """Writes the words of all documents, as lines that add them again: to standard output.
 
 The words are as the index has them, in small letters: it keeps no texts. `bunco dump old.alta | bunco shell new.alta --create`
-makes a new index of them. A document whose words give no such line is told, and left out.
+makes a new index of them. A document whose words give no such line is told, and left out. An index that may not be written is read
+by a private copy.
 
 The status is 0, 1 where a document was left out, and 3 where not all could be written.
 """
@@ -13,8 +14,7 @@ import sys
 from ..errors import Error
 from ..lines import add_line
 from ..replies import Skipped
-from ..shards import open_index
-from ..terminal import waits
+from .reading import Readable
 
 SOME_LEFT_OUT = 1
 STOPPED = 3
@@ -50,7 +50,7 @@ def write_all(documents):
 def main(arguments=None):
     options = parser().parse_args(arguments)
     try:
-        with open_index(options.index, patience=options.wait, on_wait=waits(say)) as index:
+        with Readable(options.index, options.wait, say) as source, source.opened() as index:
             return SOME_LEFT_OUT if write_all(index.dump()) else 0
     except OSError as error:
         # What is still buffered goes nowhere, so that the end says nothing of it.

@@ -1,7 +1,7 @@
 """An index that is only asked: where it stands, or as a private copy where it may not be written.
 
 The program locks the file that it opens, and opens none that it may not write. So a file in a read-only place, or of somebody
-else, is searched by a copy without free room in a temporary folder, which goes at the end.
+else, is read by a copy without free room in a temporary folder, which goes at the end.
 """
 
 from __future__ import annotations
@@ -23,13 +23,15 @@ def is_for_reading_only(path):
 
 
 class Readable:
-    """The index at a path, to be opened for questions, in a `with`; `say` is told of a copy, and of who has it open."""
+    """The index at a path, to be opened for questions, in a `with`; `say` is told of a copy, and of who has it open.
+
+    `place` is where it is opened: at the path, or where its copy stands.
+    """
 
     def __init__(self, path, patience, say):
-        self.path = path
+        self.path = self.place = path
         self._patience = patience
         self._say = say
-        self._place = path
         self._stack = contextlib.ExitStack()
 
     def __enter__(self):
@@ -39,18 +41,23 @@ class Readable:
             # Where no copy can be made, nothing stays of it.
             with contextlib.ExitStack() as stack:
                 folder = stack.enter_context(tempfile.TemporaryDirectory(prefix="bunco-"))
-                self._place = os.path.join(folder, COPY)
-                size = private_copy(self.path, self._place, self._patience)
+                place = os.path.join(folder, COPY)
+                size = private_copy(self.path, place, self._patience)
                 self._stack = stack.pop_all()
-            self._say(f"{self.path} may not be written: a private copy of it is searched, of {size:,} bytes")
+            self.place = place
+            self._say(f"{self.path} may not be written: a private copy of it is read, of {size:,} bytes")
         return self
 
     def __exit__(self, *what):
         self._stack.close()
 
-    def opened(self):
+    @property
+    def is_copy(self):
+        return self.place != self.path
+
+    def opened(self, create=False):
         """The index: until it is closed others wait for it."""
-        return open_index(self._place, patience=self._patience, on_wait=waits(self._say))
+        return open_index(self.place, create=create, patience=self._patience, on_wait=waits(self._say))
 
 
 def is_served(path):

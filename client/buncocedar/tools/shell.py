@@ -2,7 +2,7 @@
 
 A line is a command of the program, as README.md has them; `help` prints them. `add NAME` alone asks for title and body, since
 a tab completes words here. Lines that come from a file or a pipe are answered in the same way, and a refusal is an error of
-theirs. The status is 0, 1 where a line that was not typed was refused, 2 for wrong words, and 3 where the index, or a shard of
+theirs. An index that may not be written is read by a private copy, and takes no line that changes it. The status is 0, 1 where a line that was not typed was refused, 2 for wrong words, and 3 where the index, or a shard of
 it, could not be asked.
 """
 
@@ -11,9 +11,10 @@ import sys
 
 from ..errors import Error, QueryFault, Refused, refusal_of
 from ..replies import query_in
-from ..shards import Missing, NotAnswered, open_index
-from ..terminal import printable, quiet_end, waits, why
+from ..shards import Missing, NotAnswered
+from ..terminal import printable, quiet_end, why
 from .prompt import Prompt
+from .reading import Readable
 
 HELP = """add NAME            stores a document: title and body are asked for
 delete NAME         takes a document out of all answers
@@ -34,8 +35,13 @@ A query: words, "a phrase", qui*, title:fox, name:x, red NEAR/5 fox, AND, OR, NO
 # Behind a command that takes more stands the blank before that.
 COMMANDS = [line.partition("  ")[0] for line in HELP.split("\n")[:14]]
 WORDS = [line.split()[0] + " " * (" " in line) for line in COMMANDS] + ["help", "quit", "title:", "name:", "NEAR/", "AND ", "OR ", "NOT "]
+CHANGING = ("add", "delete", "flush", "merge", "step")
 SOME_REFUSED = 1
 STOPPED = 3
+
+
+def say(text):
+    print(f"shell: {text}", file=sys.stderr)
 
 
 def shown(text):
@@ -44,7 +50,8 @@ def shown(text):
 
 
 class Shell:
-    def __init__(self, index, prompt):
+    def __init__(self, source, index, prompt):
+        self.source = source
         self.index = index
         self.prompt = prompt
 
@@ -54,6 +61,8 @@ class Shell:
         try:
             if self.prompt.typed and line.strip() in ("help", "?"):
                 print(HELP)
+            elif self.source.is_copy and word in CHANGING:
+                raise Refused(f"! {self.source.path} may not be written, and takes no {word}")
             elif self.prompt.typed and word == "add" and "\t" not in rest:
                 self.add(rest.strip())
             else:
@@ -64,7 +73,7 @@ class Shell:
         except (Missing, NotAnswered) as lack:
             # What the other shards said is printed.
             sys.stdout.flush()
-            print(f"shell: {lack}", file=sys.stderr)
+            say(lack)
             return STOPPED
         sys.stdout.flush()
         return 0
@@ -88,30 +97,21 @@ class Shell:
             print(shown(text))
 
 
-def opened(options):
-    return open_index(
-        options.index,
-        create=options.create,
-        patience=options.wait,
-        on_wait=waits(lambda text: print(f"shell: {text}", file=sys.stderr)),
-    )
-
-
-def run(options, prompt):
+def run(source, create, prompt):
     """Answers lines up to the end, and answers the status."""
     status = 0
-    index = opened(options)
+    index = source.opened(create)
     try:
         for line in prompt.lines("alta> "):
             try:
-                said = Shell(index, prompt).answer(line)
+                said = Shell(source, index, prompt).answer(line)
                 status = status if prompt.typed else max(status, said)
             except KeyboardInterrupt:
                 # A call that waits for the program is broken off with it.
                 if not prompt.typed:
                     raise
                 index.kill()
-                index = opened(options)
+                index = source.opened()
                 print("\nbroken off: the index is opened anew, without cursors", file=sys.stderr)
     finally:
         index.close()
@@ -134,11 +134,11 @@ def main(arguments=None):
     # What a locale can't write ends no run, and another program gets the bytes of the replies.
     sys.stdout.reconfigure(**({"errors": "replace"} if sys.stdout.isatty() else {"encoding": "utf-8"}))
     try:
-        with Prompt("shell", "shell_history", WORDS) as prompt, quiet_end():
-            return run(options, prompt)
+        with Prompt("shell", "shell_history", WORDS) as prompt, quiet_end(), Readable(options.index, options.wait, say) as source:
+            return run(source, options.create, prompt)
     except KeyboardInterrupt:
         return 130
     except (Error, OSError) as error:
-        print(f"shell: {why(error)}", file=sys.stderr)
+        say(why(error))
         return STOPPED
     return 0

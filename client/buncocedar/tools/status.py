@@ -4,6 +4,7 @@ INDEX is a file, a folder of shards, or the address of a scheduler whose workers
 each one that is missing is named.
 
 Nothing is read but the root of each file, the figures that the program gives, and the stamps that the imports keep beside the index.
+Where the file may not be written, the program has a private copy of it.
 
 The status is 0, and 3 where the index, or a shard of it, could not be asked: what the files say is said then all the same.
 """
@@ -23,6 +24,7 @@ from ..imports.stamps import Records
 from ..index import SECONDS_FOR_A_SERVER, Index
 from ..links import FIGURES_LINE, asked
 from ..shards import Missing, is_address, is_folder_of_shards, open_index, shard_path, shards_in
+from .reading import Readable
 
 STOPPED = 3
 FIGURES = re.compile(rb"figures clients ([0-9]+) waiting ([0-9]+) cursors ([0-9]+)\n")
@@ -39,6 +41,10 @@ def parser():
     return parser
 
 
+def say(text):
+    print(f"status: {text}", file=sys.stderr)
+
+
 def of_file(path):
     """What the file says: its bytes, how many of them nothing stands in, and its levels."""
     with open(path, "rb") as file:
@@ -49,8 +55,8 @@ def of_file(path):
 
 
 def of_program(path, patience):
-    """What the program says."""
-    with Index(path, patience=patience) as index:
+    """What the program says: where the file may not be written, over a private copy."""
+    with Readable(path, patience, say) as source, Index(source.place, patience=patience) as index:
         return index.stats()._asdict()
 
 
@@ -154,5 +160,5 @@ def main(arguments=None):
     else:
         print(*shown(path, known), sep="\n")
     for why in map(str, faults):
-        print(f"status: {why}" if path in why else f"status: {path}: {why}", file=sys.stderr)
+        say(why if path in why else f"{path}: {why}")
     return STOPPED if faults or known.get("missing") else 0

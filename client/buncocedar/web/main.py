@@ -2,7 +2,8 @@
 
 Answers come as one types, best or newest first, with the lines that answer; a document is shown whole, with what was looked for
 marked. The page only reads. While nobody asks the index is closed, so that an import can have it; where a server of the index
-listens, it is asked through that. JSON stands under `/api/`.
+listens, it is asked through that. A file that may not be written is read by a private copy, which is made anew where that has changed.
+JSON stands under `/api/`.
 
 Only programs of this machine reach the page. Behind a web server of your own, which says who may read, --url is the address under
 which that is reached. With --listen others reach it, too: whoever does may read every document.
@@ -20,8 +21,6 @@ import webbrowser
 from typing import Any, List, Optional
 from urllib.parse import urlsplit
 
-from ..errors import Error, InUse
-from ..shards import open_index
 from .answers import Library
 from .questions import Questions
 from .server import Server, Site
@@ -73,28 +72,18 @@ def end(number: int, frame: Any) -> None:
     raise KeyboardInterrupt
 
 
-def refusal_of(path: str) -> str:
-    """Why there is nothing to serve at a path; empty where there is, also while somebody else has it open."""
-    try:
-        open_index(path, patience=0).close()
-    except InUse:
-        pass
-    except (Error, OSError) as error:
-        return str(error)
-    return ""
-
-
 def serve(options: argparse.Namespace, questions: Questions) -> None:
     """Serves the page until an interrupt."""
     library = Library(questions, options.source)
     with Server((options.listen, options.port), Site(library), options.url or "", say) as server:
         if not is_own(options.listen):
             say(f"whoever reaches {options.listen} may read every document")
-        say(f"the page is at {server.address()}")
-        if options.open:
-            webbrowser.open(server.address())
-        signal.signal(signal.SIGTERM, end)
         try:
+            # Whoever has read where the page is may end it.
+            signal.signal(signal.SIGTERM, end)
+            say(f"the page is at {server.address()}")
+            if options.open:
+                webbrowser.open(server.address())
             server.serve_forever(poll_interval=0.2)
         except KeyboardInterrupt:
             pass
@@ -102,12 +91,12 @@ def serve(options: argparse.Namespace, questions: Questions) -> None:
 
 def main(arguments: Optional[List[str]] = None) -> int:
     options = parser().parse_args(arguments)
-    refusal = refusal_of(options.index)
-    if refusal:
-        say(refusal)
-        return STOPPED
-    questions = Questions(options.index)
+    questions = Questions(options.index, say=say)
     try:
+        refusal = questions.refusal()
+        if refusal:
+            say(refusal)
+            return STOPPED
         serve(options, questions)
     except OSError as error:
         say(f"{options.listen}:{options.port}: {error.strerror or error}")

@@ -3,13 +3,15 @@
 from __future__ import annotations
 
 import contextlib
+import os
 import threading
 import time
-from typing import Iterator, Optional, Union
+from typing import Callable, Iterator, Optional, Union
 
-from ..errors import Ended, Error, Refused
+from ..errors import Ended, Error, InUse, Refused
 from ..index import Index
 from ..shards import ShardedIndex, open_index
+from ..tools.reading import Readable
 
 PATIENCE = 3.0  # seconds that a question waits for who has the index open
 TURN_SECONDS = 10.0  # that it waits for the questions before it
@@ -19,12 +21,24 @@ IDLE_SECONDS = 2.0  # without a question, before the index is closed
 AnyIndex = Union[Index, ShardedIndex]
 
 
+def state_of(path: str) -> tuple:
+    """What is another one where a file, or its rights, have changed, or another file stands at its place."""
+    try:
+        found = os.stat(path)
+    except OSError:
+        return ()
+    return found.st_dev, found.st_ino, found.st_ctime_ns
+
+
 class Busy(Exception):
     """Why the index can't be asked now."""
 
 
 class Questions:
-    """The index at a path, a file or a folder of shards: by its server where one listens, and else by programs of its own."""
+    """The index at a path, a file or a folder of shards: by its server where one listens, and else by programs of its own.
+
+    A file that may not be written is asked by a private copy; `say` is told of each.
+    """
 
     def __init__(
         self,
@@ -32,11 +46,16 @@ class Questions:
         patience: float = PATIENCE,
         seconds: float = QUESTION_SECONDS,
         idle: float = IDLE_SECONDS,
+        say: Callable[[str], object] = lambda text: None,
     ) -> None:
         self.path = path
         self.patience = patience
         self.seconds = seconds
         self.idle = idle
+        self.say = say
+        self._source = contextlib.ExitStack()  # what holds the private copy
+        self._place = path  # where the index is opened
+        self._seen: Optional[tuple] = None  # what the file was when that was settled
         self._turn = threading.Lock()
         self._index: Optional[AnyIndex] = None
         self._asked_at = 0.0
@@ -61,11 +80,23 @@ class Questions:
             self._asked_at = time.monotonic()
             self._turn.release()
 
+    def refusal(self) -> str:
+        """Why there is nothing to ask; empty where there is, also while somebody else has it open."""
+        with self._turn:
+            try:
+                open_index(self._place_of(0), patience=0).close()
+            except InUse:
+                pass
+            except (Error, OSError) as error:
+                return str(error)
+        return ""
+
     def close(self) -> None:
         """Ends the program; nothing may be asked any more."""
         self._ends.set()
         with self._turn:
             self._drop()
+            self._source.close()
 
     @contextlib.contextmanager
     def _limited(self, index: AnyIndex) -> Iterator[AnyIndex]:
@@ -91,8 +122,18 @@ class Questions:
                 return self._index
             except Error:
                 self._drop()
-        self._index = open_index(self.path, patience=self.patience)
+        self._index = open_index(self._place_of(self.patience), patience=self.patience)
         return self._index
+
+    def _place_of(self, patience: float) -> str:
+        """Where the index is opened: a private copy is made anew where the file has changed since."""
+        seen = state_of(self.path)
+        if seen != self._seen:
+            self._seen = None
+            self._source.close()
+            self._place = self._source.enter_context(Readable(self.path, patience, self.say)).place
+            self._seen = seen
+        return self._place
 
     def _drop(self) -> None:
         index, self._index = self._index, None
