@@ -95,7 +95,7 @@ class Ends(Case):
             process.send_signal(signal.SIGINT)
             said = process.communicate(timeout=PATIENCE)[1]
             # Before the script begins the interrupt is Python's own.
-            self.assertNotIn("buncocedar", said)
+            self.assertNotIn(os.path.join("client", "buncocedar"), said)
             self.assertIn(process.returncode, (0, 130, -signal.SIGINT, 1), said)
 
     def test_outputs_that_are_closed(self):

@@ -185,7 +185,8 @@ def a_worker_that_is_stopped(cluster, client, options):
     worker = cluster.workers[0]
     worker.send_signal(signal.SIGSTOP)
     try:
-        for most in (2 * options.patience + 4, 2.0):
+        # Then it rests, and nothing waits for it.
+        for most in (2 * options.patience + 4, options.patience):
             begun = time.monotonic()
             try:
                 client.index.count("fox")
@@ -270,7 +271,7 @@ def main():
     parser.add_argument("--seed", type=int, default=1)
     parser.add_argument("--shards", type=int, default=8)
     parser.add_argument("--machines", type=int, default=4)
-    parser.add_argument("--patience", type=float, default=5.0)
+    parser.add_argument("--patience", type=float, default=10.0)
     options = parser.parse_args()
     program = os.path.abspath(options.program) if options.program else fake.installed()
     chance = random.Random(options.seed)

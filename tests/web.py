@@ -578,11 +578,12 @@ class Command(Case):
 
     def test_from_begin_to_end(self):
         self.many(1)
-        for number in (signal.SIGINT, signal.SIGTERM):
+        for number, asks in ((signal.SIGINT, True), (signal.SIGTERM, True), (signal.SIGINT, False), (signal.SIGTERM, False)):
             process = self.start(self.path, "--port", "0")
             said = process.stderr.readline()
             self.port = int(re.fullmatch(r"web: the page is at http://127\.0\.0\.1:([0-9]+)/\n", said)[1])
-            self.assertIn("1 document, ", self.text("/"))
+            if asks:
+                self.assertIn("1 document, ", self.text("/"))
             process.send_signal(number)
             self.assertEqual((process.wait(PATIENCE), process.stderr.read()), (0, ""))
             Index(self.path, patience=0).close()
