@@ -598,11 +598,13 @@ class Tasks(Case):
         self.assertEqual(self.run_tasks(work), 1)
 
     def test_the_end_of_the_server(self):
-        server = self.serve(silent=1)
+        mark = os.path.join(self.folder, "mark")
+        server = self.serve(silent=1, mark=mark)
 
         async def work(index):
             task = asyncio.ensure_future(index.count("fox"))
-            await asyncio.sleep(0.2)
+            while not os.path.exists(mark):
+                await asyncio.sleep(0.01)
             server.kill()
             with self.assertRaises(buncocedar.ServerEnded):
                 await task
@@ -613,6 +615,9 @@ class Tasks(Case):
         server.wait(PATIENCE)
         with self.assertRaises(buncocedar.ServerEnded):
             asyncio.run(AsyncIndex.connect(self.path))
+        # The program that does not answer is ended by nobody else.
+        with open(mark) as file:
+            os.kill(int(file.read()), signal.SIGKILL)
 
 
 class Rights(Case):
