@@ -1,5 +1,5 @@
 -- What is known of lists that were tested.
-use Rattle.std.proofs.Common.{◌≡◌, ◌⊎◌, ⊎_elim, inl, inr, ℕ, ◌<◌, ◌≤◌, ◌++◌, List, [], ◌∷◌, insert, take, drop, length, get_or, refl, sym, subst, ap, ◌∙◌, arith}
+use Rattle.std.proofs.Common.{◌≡◌, ◌⊎◌, ⊎_elim, inl, inr, ℕ, ◌<◌, List, [], ◌∷◌, insert, take, drop, length, get_or, refl, sym, subst, ap, ◌∙◌}
 use Rattle.std.specs.Prelude.{All, Contains, Ok, Some, slice_get}
 use Rattle.std.proofs.lemmas.List.Elements.{All-nil, All-cons, All-append, All-take, All-drop, All-weaker, All-contains, All-contains_itself, All-get_or}
 use Rattle.std.proofs.lemmas.Option.{get_or_from_slice_get, slice_get_read, slice_get_within}
@@ -10,7 +10,6 @@ use Rattle.alta_loading.specs.Loads.{IsWhole, Load, Tells, list_at, stored_by}
 use Rattle.alta_level.specs.Stored.{IsListFault, IsListOf}
 use Rattle.alta_loading.specs.Tested.{AreEndsWhole}
 use Rattle.alta_loading.specs.declared.kept.Ends.{Ends}
-use Rattle.alta_loading.specs.declared.kept.Ends.TheVariants.{Tested, Untested}
 use Rattle.alta_loading.specs.declared.kept.KeptList.{KeptList}
 use Rattle.alta_loading.specs.declared.kept.KeptLists.{KeptLists}
 use Rattle.alta_table.specs.Tables.{Tables}

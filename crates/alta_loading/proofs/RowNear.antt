@@ -1,6 +1,6 @@
 -- What the rows beside a place say of a term, in rows whose terms rise.
 use Rattle.std.proofs.Common.{◌≡◌, length, get_or, ◌⊎◌, ⊎_elim, ℕ, zero, suc, ◌≤◌, ◌<◌, true, List, [], ◌∷◌, refl, sym, ap, subst, ◌∙◌, arith}
-use Rattle.std.specs.Prelude.{◌-◌, IfSome, Option, Some, None, MatchOption, slice_get, slice_index_or}
+use Rattle.std.specs.Prelude.{◌-◌, IfSome, Option, Some, None, MatchOption, slice_get}
 use Rattle.std.proofs.lemmas.List.{get_or_default}
 use Rattle.std.specs.Cmp.Lexicographic.{slice_cmp}
 use Rattle.std.specs.FinMap.{slice_cmp-IsAntisymmetric, nat_cmp-IsAntisymmetric}
@@ -104,16 +104,15 @@ beside_is level o b h is = subst (λ (x : Option Beside). IfSome x (λ b. IsBesi
 
 -- how the second stands to a term
 pub here_order : (level : Tables) (b : Beside) (term : List ℕ) (o : Ordering) → IsBeside level b → o ≡ order_to term (slice_get (level_terms b.here.tables) b.here.row)
-    → order_to term (slice_get (level_terms level) b.place) ≡ o
+    → order_to term (slice_get (level_terms level) b.here.row) ≡ o
 here_order level b term o is e = sym (e
-    ∙ ap (λ (t : Tables). order_to term (slice_get (level_terms t) b.here.row)) is.here
-    ∙ ap (λ (k : ℕ). order_to term (slice_get (level_terms level) k)) (sym is.place))
+    ∙ ap (λ (t : Tables). order_to term (slice_get (level_terms t) b.here.row)) is.here)
 
 -- and the first
 pub before_order : (level : Tables) (b : Beside) (term : List ℕ) (o : Ordering) → IsBeside level b → order_to term (slice_get (level_terms b.before.tables) b.before.row) ≡ o
-    → order_to term (slice_get (level_terms level) (b.place - 1)) ≡ o
+    → order_to term (slice_get (level_terms level) (b.here.row - 1)) ≡ o
 before_order level b term o is e =
-    let at : b.place - 1 ≡ b.before.row = omega (arith, is.row, is.place) in
+    let at : b.here.row - 1 ≡ b.before.row = omega (arith, is.row) in
     ap (λ (k : ℕ). order_to term (slice_get (level_terms level) k)) at ∙ sym (ap (λ (t : Tables). order_to term (slice_get (level_terms t) b.before.row)) is.before) ∙ e
 
 -- ---- levels in which terms are looked up

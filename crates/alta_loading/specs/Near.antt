@@ -17,7 +17,6 @@ pub record IsBeside (level : Tables) (beside : Beside) : Type 0 where
   pub before : beside.before.tables ≡ level
   pub here : beside.here.tables ≡ level
   pub row : beside.before.row + 1 ≡ beside.here.row
-  pub place : beside.place ≡ beside.here.row
   pub within : beside.here.row < length level.terms
 
 -- terms are looked up in these levels, or in none

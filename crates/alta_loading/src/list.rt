@@ -30,58 +30,55 @@ pub fn load_list<D: Disk>(
     alloc: Global,
     disk: &mut D,
     table: &OpenLevel,
-    row: usize,
+    row: &TermCursor<'_>,
 ) -> Result<Posting, LoadFault>
-    requires row { row < length table.now.terms }
+    requires tables { row.now.tables ≡ table.now }
+    requires row { row.now.row < length table.now.terms }
     requires within { D.tells → LiesWithin table.now (D.state disk.old).content }
     // What is loaded is the list that stands there, and if there is one it is loaded.
-    ensures list { D.tells → IfOk result (λ posting. IsListOf table.now.documents (stored_in table.now row (D.state disk.old).content) posting) }
-    ensures only { D.tells → (list : List ℕ) → IsListOf table.now.documents (stored_in table.now row (D.state disk.old).content) list → IsFound (λ posting. posting) result list }
+    ensures list { D.tells → IfOk result (λ posting. IsListOf table.now.documents (stored_in table.now row.now.row (D.state disk.old).content) posting) }
+    ensures only { D.tells → (list : List ℕ) → IsListOf table.now.documents (stored_in table.now row.now.row (D.state disk.old).content) list → IsFound (λ posting. posting) result list }
     // The damage is the first of the list, and if there is one that is the answer.
-    ensures first { D.tells → IfDamaged result (IsListFault table.now.documents (stored_in table.now row (D.state disk.old).content)) }
-    ensures damaged { D.tells → (p : ℕ) → IsListFault table.now.documents (stored_in table.now row (D.state disk.old).content) p → IsDamaged result p }
+    ensures first { D.tells → IfDamaged result (IsListFault table.now.documents (stored_in table.now row.now.row (D.state disk.old).content)) }
+    ensures damaged { D.tells → (p : ℕ) → IsListFault table.now.documents (stored_in table.now row.now.row (D.state disk.old).content) p → IsDamaged result p }
     // It is a damage of the level.
     ensures broken { D.tells → IfDamaged result (IsBrokenIn table.now (D.state disk.old).content) }
     // Whatever the disk tells, what is loaded keeps what its row and the documents say.
-    ensures kept { IfOk result (λ posting. KeepsRow table.now row posting) }
-    ensures retrieves { Retrieves D.tells (stream_size table.now row + summary_size table.now row) (D.state disk.old) (D.state disk.new) result }
+    ensures kept { IfOk result (λ posting. KeepsRow table.now row.now.row posting) }
+    ensures retrieves { Retrieves D.tells (stream_size table.now row.now.row + summary_size table.now row.now.row) (D.state disk.old) (D.state disk.new) result }
 {
-    let cursor = table.at(row);
-    let (stream, summary) = read_bytes(alloc, disk, table, row, &cursor)?;
-    checked(table, row, &cursor, stream, summary)
+    let (stream, summary) = read_bytes(alloc, disk, table, row)?;
+    checked(table, row, stream, summary)
 }
 
-// Where stream and summary of a row stand, at which a cursor stands.
-fn places(table: &OpenLevel, row: usize, cursor: &TermCursor<'_>) -> (Extent, Extent)
-    requires tables { cursor.now.tables ≡ table.now }
-    requires here { cursor.now.row ≡ row }
-    ensures stream { result.0 ≡ stream_extent table.now row }
-    ensures summary { result.1 ≡ summary_extent table.now row }
+/// Where stream and summary of a row stand.
+pub(crate) fn places(table: &OpenLevel, row: &TermCursor<'_>) -> (Extent, Extent)
+    requires tables { row.now.tables ≡ table.now }
+    ensures stream { result.0 ≡ stream_extent table.now row.now.row }
+    ensures summary { result.1 ≡ summary_extent table.now row.now.row }
     ensures beside { result.1.place ≡ result.0.place + result.0.bytes }
     ensures within { result.1.place + result.1.bytes ≤ table.now.place + total_of table.now.documents table.now.terms }
 {
-    cursor.stream_place()
+    row.stream_place()
 }
 
-// The bytes of the stream and of the summary of a row, at which a cursor stands.
+// The bytes of the stream and of the summary of a row.
 fn read_bytes<D: Disk>(
     alloc: Global,
     disk: &mut D,
     table: &OpenLevel,
-    row: usize,
-    cursor: &TermCursor<'_>,
+    row: &TermCursor<'_>,
 ) -> Result<(Vec<u8>, Vec<u8>), LoadFault>
-    requires row { row < length table.now.terms }
-    requires tables { cursor.now.tables ≡ table.now }
-    requires here { cursor.now.row ≡ row }
+    requires row { row.now.row < length table.now.terms }
+    requires tables { row.now.tables ≡ table.now }
     requires within { D.tells → LiesWithin table.now (D.state disk.old).content }
-    ensures stored { D.tells → IfOk result (λ x. stored_as table.now row x.0.items x.1.items ≡ stored_in table.now row (D.state disk.old).content) }
-    ensures sizes { IfOk result (λ x. (length x.0.items ≡ stream_size table.now row) × (length x.1.items ≡ summary_size table.now row)) }
-    ensures below { IfOk result (λ x. stream_place table.now row + stream_size table.now row + summary_size table.now row < 2 ^ 64) }
+    ensures stored { D.tells → IfOk result (λ x. stored_as table.now row.now.row x.0.items x.1.items ≡ stored_in table.now row.now.row (D.state disk.old).content) }
+    ensures sizes { IfOk result (λ x. (length x.0.items ≡ stream_size table.now row.now.row) × (length x.1.items ≡ summary_size table.now row.now.row)) }
+    ensures below { IfOk result (λ x. stream_place table.now row.now.row + stream_size table.now row.now.row + summary_size table.now row.now.row < 2 ^ 64) }
     ensures undamaged { IfDamaged result (λ p. ⊥) }
-    ensures retrieves { Retrieves D.tells (stream_size table.now row + summary_size table.now row) (D.state disk.old) (D.state disk.new) result }
+    ensures retrieves { Retrieves D.tells (stream_size table.now row.now.row + summary_size table.now row.now.row) (D.state disk.old) (D.state disk.new) result }
 {
-    let (stream, summary) = places(table, row, cursor);
+    let (stream, summary) = places(table, row);
     // A level lies within its disk, so there is always such an end.
     let Some(end) = summary.place.checked_add(summary.bytes) else {
         return Err(LoadFault::Memory);
@@ -91,27 +88,25 @@ fn read_bytes<D: Disk>(
     Ok((bytes, behind))
 }
 
-// The list of a row, at which a cursor stands, of these bytes, or its first fault.
+// The list of a row, of these bytes, or its first fault.
 fn checked(
     table: &OpenLevel,
-    row: usize,
-    cursor: &TermCursor<'_>,
+    row: &TermCursor<'_>,
     stream: Vec<u8>,
     summary: Vec<u8>,
 ) -> Result<Posting, LoadFault>
-    requires row { row < length table.now.terms }
-    requires tables { cursor.now.tables ≡ table.now }
-    requires here { cursor.now.row ≡ row }
-    requires sizes { (length stream.items ≡ stream_size table.now row) × (length summary.items ≡ summary_size table.now row) }
-    requires below { stream_place table.now row + stream_size table.now row + summary_size table.now row < 2 ^ 64 }
-    ensures list { IfOk result (λ posting. IsListOf table.now.documents (stored_as table.now row stream.items summary.items) posting) }
-    ensures first { IfDamaged result (IsListFault table.now.documents (stored_as table.now row stream.items summary.items)) }
-    ensures only { (list : List ℕ) → IsListOf table.now.documents (stored_as table.now row stream.items summary.items) list → IsFound (λ posting. posting) result list }
-    ensures damaged { (p : ℕ) → IsListFault table.now.documents (stored_as table.now row stream.items summary.items) p → IsDamaged result p }
+    requires row { row.now.row < length table.now.terms }
+    requires tables { row.now.tables ≡ table.now }
+    requires sizes { (length stream.items ≡ stream_size table.now row.now.row) × (length summary.items ≡ summary_size table.now row.now.row) }
+    requires below { stream_place table.now row.now.row + stream_size table.now row.now.row + summary_size table.now row.now.row < 2 ^ 64 }
+    ensures list { IfOk result (λ posting. IsListOf table.now.documents (stored_as table.now row.now.row stream.items summary.items) posting) }
+    ensures first { IfDamaged result (IsListFault table.now.documents (stored_as table.now row.now.row stream.items summary.items)) }
+    ensures only { (list : List ℕ) → IsListOf table.now.documents (stored_as table.now row.now.row stream.items summary.items) list → IsFound (λ posting. posting) result list }
+    ensures damaged { (p : ℕ) → IsListFault table.now.documents (stored_as table.now row.now.row stream.items summary.items) p → IsDamaged result p }
     ensures some { IfOk result (λ posting. 0 < length posting) }
     ensures lean { result ≡ Err DiskFault → ⊥ }
 {
-    let list = stored(table, row, cursor, &stream, &summary);
+    let list = stored(table, row, &stream, &summary);
     match check_list(&list, table.rows()) {
         Ok(bounds) => Ok(Posting::of(stream, summary, bounds)),
         Err(LevelFault::Damaged(place)) => Err(LoadFault::Damaged(place)),
@@ -119,19 +114,17 @@ fn checked(
     }
 }
 
-// The list of a row, at which a cursor stands, of these bytes.
+// The list of a row, of these bytes.
 fn stored<'a>(
     table: &OpenLevel,
-    row: usize,
-    cursor: &'a TermCursor<'_>,
+    row: &'a TermCursor<'_>,
     stream: &'a [u8],
     summary: &'a [u8],
 ) -> StoredList<'a>
-    requires tables { cursor.now.tables ≡ table.now }
-    requires here { cursor.now.row ≡ row }
-    ensures { stored_of result ≡ stored_as table.now row stream.now summary.now }
+    requires tables { row.now.tables ≡ table.now }
+    ensures { stored_of result ≡ stored_as table.now row.now.row stream.now summary.now }
 {
-    listed(cursor, stream, summary)
+    listed(row, stream, summary)
 }
 
 // The list of the row at which a cursor stands, of these bytes.

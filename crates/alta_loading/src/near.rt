@@ -8,12 +8,11 @@ use alta_table::{OpenLevel, TermCursor};
 use std::cmp::Ordering;
 use std::marker::Model;
 
-/// Two rows of a level, one behind the other, and the place of the second.
+/// Two rows of a level, one behind the other.
 #[derive(Drop)]
 pub struct Beside<'a> {
     pub before: TermCursor<'a>,
     pub here: TermCursor<'a>,
-    pub place: usize,
 }
 
 /// A level in which terms are looked up, and the rows at which the look-up of the next one begins. Contracts see the level alone.
@@ -36,8 +35,9 @@ impl<'a> Model for Near<'a> {
 }
 
 impl<'a> Near<'a> {
-    ghost use Rattle.std.specs.Prelude.{◌≡◌, ℕ, Some, MatchOption, slice_get};
+    ghost use Rattle.std.specs.Prelude.{◌≡◌, ℕ, Some, IfSome, MatchOption, slice_get};
     ghost use Rattle.alta_loading.specs.Met.{level_terms};
+    ghost use Rattle.alta_table.specs.Places.{row_at};
 
     /// A level in which no term was looked up.
     pub fn new(level: &'a OpenLevel) -> Near<'a>
@@ -51,20 +51,21 @@ impl<'a> Near<'a> {
 
     /// The row of a term, None exactly where it is not there. It looks at the rows behind that of the term before. So along rising terms,
     /// among which are those of all rows between, a look-up compares one row or two. With any other term it looks by halves.
-    pub fn find(&mut self, term: &[u8]) -> Option<usize>
+    pub fn find(&mut self, term: &[u8]) -> Option<TermCursor<'a>>
         ensures level { self.new ≡ self.old }
-        ensures row { MatchOption result ((i : ℕ) → slice_get (level_terms self.old) i ≡ Some term.now → ⊥) (λ i. slice_get (level_terms self.old) i ≡ Some term.now) }
+        ensures tables { IfSome result (λ c. c.tables ≡ self.old) }
+        ensures row { MatchOption (row_at result) ((i : ℕ) → slice_get (level_terms self.old) i ≡ Some term.now → ⊥) (λ i. slice_get (level_terms self.old) i ≡ Some term.now) }
     {
         // This call tells that the terms rise.
         let _documents = self.level.documents();
         let Some(beside) = &self.beside else {
             return self.find_anew(term);
         };
-        let place = beside.place;
         match order_of(&beside.here, term) {
             Ordering::Equal => {
-                self.stand_behind(place);
-                Some(place)
+                let found = beside.here.copy();
+                self.beside = behind(self.level, &found);
+                Some(found)
             }
             Ordering::Greater if is_lower(&beside.before, term) => None,
             _ => self.find_anew(term),
@@ -72,14 +73,15 @@ impl<'a> Near<'a> {
     }
 
     // The row of a term, looked for by halves.
-    fn find_anew(&mut self, term: &[u8]) -> Option<usize>
+    fn find_anew(&mut self, term: &[u8]) -> Option<TermCursor<'a>>
         ensures level { self.new ≡ self.old }
-        ensures row { MatchOption result ((i : ℕ) → slice_get (level_terms self.old) i ≡ Some term.now → ⊥) (λ i. slice_get (level_terms self.old) i ≡ Some term.now) }
+        ensures tables { IfSome result (λ c. c.tables ≡ self.old) }
+        ensures row { MatchOption (row_at result) ((i : ℕ) → slice_get (level_terms self.old) i ≡ Some term.now → ⊥) (λ i. slice_get (level_terms self.old) i ≡ Some term.now) }
     {
-        match self.level.find(term) {
-            Some(row) => {
-                self.beside = beside_at(self.level, row.saturating_add(1));
-                Some(row)
+        match self.level.look_up(term) {
+            Some(found) => {
+                self.beside = behind(self.level, &found);
+                Some(found)
             }
             None => {
                 let (place, _behind) = self.level.prefixed(term);
@@ -88,39 +90,22 @@ impl<'a> Near<'a> {
             }
         }
     }
-
-    // Goes on behind the row at which the second of the two stands.
-    fn stand_behind(&mut self, place: usize)
-        ensures level { self.new ≡ self.old }
-    {
-        self.beside = match self.beside.take() {
-            Some(beside) => behind(self.level, beside),
-            None => beside_at(self.level, place),
-        };
-    }
 }
 
-// The two rows one further on, if there are two.
-fn behind<'a>(level: &'a OpenLevel, beside: Beside<'a>) -> Option<Beside<'a>>
-    requires { IsBeside level.now beside }
+// This row and the one behind it, if there is one.
+fn behind<'a>(level: &'a OpenLevel, row: &TermCursor<'a>) -> Option<Beside<'a>>
+    requires { row.now.tables ≡ level.now }
     ensures { IfSome result (λ b. IsBeside level.now b) }
 {
-    let Beside {
-        before,
-        here,
-        place,
-    } = beside;
-    if place + 1 >= level.terms() {
+    let terms = level.terms();
+    if row.row() + 1 >= terms {
         return None;
     }
-    let mut before = before;
-    let mut here = here;
-    before.next();
+    let mut here = row.copy();
     here.next();
     Some(Beside {
-        before,
+        before: row.copy(),
         here,
-        place: place + 1,
     })
 }
 
@@ -134,7 +119,6 @@ fn beside_at<'a>(level: &'a OpenLevel, place: usize) -> Option<Beside<'a>>
     Some(Beside {
         before: level.at(place - 1),
         here: level.at(place),
-        place,
     })
 }
 

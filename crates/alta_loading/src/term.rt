@@ -1,5 +1,5 @@
 // The lists of a term.
-ghost use Rattle.std.specs.Prelude.{◌≡◌, ◌∷◌, ◌++◌, ◌^◌, ℕ, List, [], map, All, Err, IfOk, OnOk, Some, MatchOption, ◌<◌, length, slice_get, slice_index_or, IsTrue};
+ghost use Rattle.std.specs.Prelude.{◌≡◌, ◌∷◌, ◌++◌, ◌^◌, ℕ, List, [], map, All, Err, IfOk, IfSome, OnOk, Some, MatchOption, ◌<◌, length, slice_get, slice_index, slice_index_or, IsTrue};
 ghost use Rattle.alta_content.specs.Rows.{ends_of};
 ghost use Rattle.alta_disk.specs.Disk.{DiskState};
 ghost use Rattle.alta_loading.specs.Kept.{AreKept, AreTestedIn, KeepsAlso, KeepsTested};
@@ -10,17 +10,19 @@ ghost use Rattle.alta_loading.specs.Near.{AreNear, IsNearAt};
 ghost use Rattle.alta_loading.specs.Terms.{KeepTerm, if_some, lists_of_term, number_if_some, term_key};
 ghost use Rattle.alta_loading.specs.Tested.{AreEndsWhole, IsAllEnds};
 ghost use Rattle.alta_search.specs.Lists.{key_of, level_in, level_list, stored_list, term_lists};
+ghost use Rattle.alta_table.specs.Places.{row_at};
 ghost use Rattle.alta_table.specs.Tables.{Tables};
+ghost use Rattle.alta_table.specs.Terms.{counts_of};
 
 use crate::kept::{Ends, KeptList, KeptLists, is_long};
-use crate::list::load_list;
+use crate::list::{load_list, places};
 use crate::near::Near;
 use alta_codec::{Bytes, Loc};
 use alta_disk::{Disk, LoadFault};
 use alta_level::is_end_term;
 use alta_memlevel::MemLevel;
 use alta_search::{LevelList, Stored, TermLists};
-use alta_table::OpenLevel;
+use alta_table::{OpenLevel, TermCursor};
 use alta_words::Posting;
 use std::alloc::{AllocError, Global};
 use std::rc::Rc;
@@ -35,14 +37,14 @@ use std::rc::Rc;
 ///
 /// `Damaged` exactly where one of the lists has a fault, at the first fault of the first list that has one. `Disk` where a
 /// read failed. `Memory` where there was no memory for the lists.
-pub(crate) fn load_term<D: Disk>(
+pub(crate) fn load_term<'a, D: Disk>(
     alloc: Global,
     disk: &mut D,
-    levels: &[OpenLevel],
+    levels: &'a [OpenLevel],
     kept: &mut KeptLists,
     newest: &MemLevel,
     term: Bytes,
-    nears: &mut [Near<'_>],
+    nears: &mut [Near<'a>],
 ) -> Result<TermLists, LoadFault>
     requires within { D.tells → All (λ level. LiesWithin level (D.state disk.old).content) levels.now }
     requires known { AreKept D.tells (D.state disk.old).content levels.now kept.old }
@@ -88,13 +90,13 @@ fn with_newest(
 }
 
 // The lists of a term in levels, that of the oldest level first, by one read of the disk for each level that has the term.
-fn load_coded<D: Disk>(
+fn load_coded<'a, D: Disk>(
     alloc: Global,
     disk: &mut D,
-    levels: &[OpenLevel],
+    levels: &'a [OpenLevel],
     kept: &mut KeptLists,
     term: &[u8],
-    nears: &mut [Near<'_>],
+    nears: &mut [Near<'a>],
 ) -> Result<Vec<LevelList>, LoadFault>
     requires within { D.tells → All (λ level. LiesWithin level (D.state disk.old).content) levels.now }
     requires known { AreKept D.tells (D.state disk.old).content levels.now kept.old }
@@ -129,15 +131,15 @@ fn load_coded<D: Disk>(
 }
 
 // The list of a term in a level, behind others, where the level has the term.
-fn load_next<D: Disk>(
+fn load_next<'a, D: Disk>(
     alloc: Global,
     disk: &mut D,
     lists: &mut Vec<LevelList>,
     number: u64,
-    level: &OpenLevel,
+    level: &'a OpenLevel,
     kept: &mut KeptLists,
     term: &[u8],
-    nears: &mut [Near<'_>],
+    nears: &mut [Near<'a>],
 ) -> Result<(), LoadFault>
     requires within { D.tells → LiesWithin level.now (D.state disk.old).content }
     requires ends { D.tells → AreEndsWhole kept.old.ends (D.state disk.old).content (level.now ∷ []) }
@@ -152,7 +154,7 @@ fn load_next<D: Disk>(
 {
     match row_of(level, term, number, nears) {
         None => Ok(()),
-        Some(row) => match load_row(alloc, disk, number, level, kept, row, term) {
+        Some(row) => match load_row(alloc, disk, number, level, kept, &row, term) {
             Ok(list) => {
                 lists.push(list)?;
                 Ok(())
@@ -163,12 +165,18 @@ fn load_next<D: Disk>(
 }
 
 // The row of a term in the level of this number, behind that of the term before, where it was looked up.
-fn row_of(level: &OpenLevel, term: &[u8], number: u64, among: &mut [Near<'_>]) -> Option<usize>
+fn row_of<'a>(
+    level: &'a OpenLevel,
+    term: &[u8],
+    number: u64,
+    among: &mut [Near<'a>],
+) -> Option<TermCursor<'a>>
     requires { IsNearAt level.now number among.old }
     ensures kept { among.new ≡ among.old }
-    ensures row { result ≡ row_from 0 level.now.terms term.now }
-    ensures within { MatchOption result (Unit {0}) (λ row. row < length level.now.terms) }
-    ensures term { MatchOption result (Unit {0}) (λ row. slice_get (level_terms level.now) row ≡ Some term.now) }
+    ensures tables { IfSome result (λ c. c.tables ≡ level.now) }
+    ensures row { row_at result ≡ row_from 0 level.now.terms term.now }
+    ensures within { MatchOption (row_at result) (Unit {0}) (λ row. row < length level.now.terms) }
+    ensures term { MatchOption (row_at result) (Unit {0}) (λ row. slice_get (level_terms level.now) row ≡ Some term.now) }
 {
     // This call tells that the terms rise.
     let _documents = level.documents();
@@ -176,15 +184,30 @@ fn row_of(level: &OpenLevel, term: &[u8], number: u64, among: &mut [Near<'_>]) -
     if number < among.len() {
         row_among(among, number, term)
     } else {
-        level.find(term)
+        row_alone(level, term)
     }
 }
 
+// The row of a term, which no look-up comes before. Nothing sorts before the term of document ends, so that has the first row.
+fn row_alone<'a>(level: &'a OpenLevel, term: &[u8]) -> Option<TermCursor<'a>>
+    ensures tables { IfSome result (λ c. c.tables ≡ level.now) }
+    ensures row { MatchOption (row_at result) ((i : ℕ) → slice_get (level_terms level.now) i ≡ Some term.now → ⊥) (λ i. slice_get (level_terms level.now) i ≡ Some term.now) }
+{
+    if is_end_term(term) {
+        let first = level.first();
+        if first.term() == term {
+            return Some(first);
+        }
+    }
+    level.look_up(term)
+}
+
 // The row of a term in the level of this number, among these.
-fn row_among(among: &mut [Near<'_>], number: usize, term: &[u8]) -> Option<usize>
+fn row_among<'a>(among: &mut [Near<'a>], number: usize, term: &[u8]) -> Option<TermCursor<'a>>
     requires { number < length among.old }
     ensures kept { among.new ≡ among.old }
-    ensures row { (d : Tables) → MatchOption result ((i : ℕ) → slice_get (level_terms (slice_index_or among.old number d)) i ≡ Some term.now → ⊥)
+    ensures tables { (d : Tables) → IfSome result (λ c. c.tables ≡ slice_index_or among.old number d) }
+    ensures row { (d : Tables) → MatchOption (row_at result) ((i : ℕ) → slice_get (level_terms (slice_index_or among.old number d)) i ≡ Some term.now → ⊥)
         (λ i. slice_get (level_terms (slice_index_or among.old number d)) i ≡ Some term.now) }
 {
     among[number].find(term)
@@ -197,25 +220,26 @@ fn load_row<D: Disk>(
     number: u64,
     level: &OpenLevel,
     kept: &mut KeptLists,
-    row: usize,
+    row: &TermCursor<'_>,
     term: &[u8],
 ) -> Result<LevelList, LoadFault>
-    requires row { row < length level.now.terms }
-    requires term { slice_get (level_terms level.now) row ≡ Some term.now }
+    requires tables { row.now.tables ≡ level.now }
+    requires row { row.now.row < length level.now.terms }
+    requires term { slice_get (level_terms level.now) row.now.row ≡ Some term.now }
     requires within { D.tells → LiesWithin level.now (D.state disk.old).content }
     requires ends { D.tells → AreEndsWhole kept.old.ends (D.state disk.old).content (level.now ∷ []) }
     requires tested { AreTestedIn D.tells (D.state disk.old).content number level.now kept.old }
     ensures number { IfOk result (λ list. level_in list ≡ number) }
-    ensures list { D.tells → IfOk result (λ list. level_list list ≡ list_at (D.state disk.old).content (record { number = number; level = level.now; row = row })) }
-    ensures kept { IfOk result (λ list. KeepsRow level.now row (level_list list)) }
+    ensures list { D.tells → IfOk result (λ list. level_list list ≡ list_at (D.state disk.old).content (record { number = number; level = level.now; row = row.now.row })) }
+    ensures kept { IfOk result (λ list. KeepsRow level.now row.now.row (level_list list)) }
     ensures keeps { KeepsTested D.tells (D.state disk.old).content number level.now kept.old kept.new }
-    ensures loads { ReadsLists D.tells (load_at number level.now (Some row)) (D.state disk.old) (D.state disk.new) result }
+    ensures loads { ReadsLists D.tells (load_at number level.now (Some row.now.row)) (D.state disk.old) (D.state disk.new) result }
 {
     if is_tested(kept.ends, level, row, term) {
         let list = all_ends(number, level)?;
         return Ok(list);
     }
-    match kept.get(number, row) {
+    match kept.get(number, row.row()) {
         Some(posting) => Ok(LevelList {
             level: number,
             stored: Stored::Shared(posting.clone()?),
@@ -231,17 +255,18 @@ fn read_row<D: Disk>(
     number: u64,
     level: &OpenLevel,
     kept: &mut KeptLists,
-    row: usize,
+    row: &TermCursor<'_>,
     term: &[u8],
 ) -> Result<LevelList, LoadFault>
-    requires row { row < length level.now.terms }
-    requires term { slice_get (level_terms level.now) row ≡ Some term.now }
+    requires tables { row.now.tables ≡ level.now }
+    requires row { row.now.row < length level.now.terms }
+    requires term { slice_get (level_terms level.now) row.now.row ≡ Some term.now }
     requires within { D.tells → LiesWithin level.now (D.state disk.old).content }
     ensures number { IfOk result (λ list. level_in list ≡ number) }
-    ensures list { D.tells → IfOk result (λ list. level_list list ≡ list_at (D.state disk.old).content (record { number = number; level = level.now; row = row })) }
-    ensures kept { IfOk result (λ list. KeepsRow level.now row (level_list list)) }
+    ensures list { D.tells → IfOk result (λ list. level_list list ≡ list_at (D.state disk.old).content (record { number = number; level = level.now; row = row.now.row })) }
+    ensures kept { IfOk result (λ list. KeepsRow level.now row.now.row (level_list list)) }
     ensures keeps { KeepsTested D.tells (D.state disk.old).content number level.now kept.old kept.new }
-    ensures loads { ReadsLists D.tells (load_at number level.now (Some row)) (D.state disk.old) (D.state disk.new) result }
+    ensures loads { ReadsLists D.tells (load_at number level.now (Some row.now.row)) (D.state disk.old) (D.state disk.new) result }
 {
     match load_list(alloc, disk, level, row) {
         Ok(posting) => Ok(LevelList {
@@ -254,12 +279,13 @@ fn read_row<D: Disk>(
 
 // Whether nothing has to be read of a row: its list is that of all ends, which was tested, and the row counts as many as there are
 // documents.
-fn is_tested(ends: Ends, level: &OpenLevel, row: usize, term: &[u8]) -> bool
-    requires row { row < length level.now.terms }
-    requires term { slice_get (level_terms level.now) row ≡ Some term.now }
-    ensures ends { IsTrue result → (image : List ℕ) → AreEndsWhole ends image (level.now ∷ []) → IsAllEnds image (record { number = 0; level = level.now; row = row }) }
-    ensures kept { IsTrue result → KeepsRow level.now row (ends_of level.now.documents) }
-    ensures small { IsTrue result → stream_size level.now row < 2 ^ 64 }
+fn is_tested(ends: Ends, level: &OpenLevel, row: &TermCursor<'_>, term: &[u8]) -> bool
+    requires tables { row.now.tables ≡ level.now }
+    requires row { row.now.row < length level.now.terms }
+    requires term { slice_get (level_terms level.now) row.now.row ≡ Some term.now }
+    ensures ends { IsTrue result → (image : List ℕ) → AreEndsWhole ends image (level.now ∷ []) → IsAllEnds image (record { number = 0; level = level.now; row = row.now.row }) }
+    ensures kept { IsTrue result → KeepsRow level.now row.now.row (ends_of level.now.documents) }
+    ensures small { IsTrue result → stream_size level.now row.now.row < 2 ^ 64 }
 {
     match ends {
         Ends::Untested => false,
@@ -268,19 +294,28 @@ fn is_tested(ends: Ends, level: &OpenLevel, row: usize, term: &[u8]) -> bool
 }
 
 // Whether a row is that of all ends, and counts as many as there are documents.
-fn counts_all_ends(level: &OpenLevel, row: usize, term: &[u8]) -> bool
-    requires row { row < length level.now.terms }
-    requires term { slice_get (level_terms level.now) row ≡ Some term.now }
-    ensures ends { IsTrue result → (image : List ℕ) → AreEndsWhole Ends.Tested image (level.now ∷ []) → IsAllEnds image (record { number = 0; level = level.now; row = row }) }
-    ensures kept { IsTrue result → KeepsRow level.now row (ends_of level.now.documents) }
-    ensures small { IsTrue result → stream_size level.now row < 2 ^ 64 }
+fn counts_all_ends(level: &OpenLevel, row: &TermCursor<'_>, term: &[u8]) -> bool
+    requires tables { row.now.tables ≡ level.now }
+    requires row { row.now.row < length level.now.terms }
+    requires term { slice_get (level_terms level.now) row.now.row ≡ Some term.now }
+    ensures ends { IsTrue result → (image : List ℕ) → AreEndsWhole Ends.Tested image (level.now ∷ []) → IsAllEnds image (record { number = 0; level = level.now; row = row.now.row }) }
+    ensures kept { IsTrue result → KeepsRow level.now row.now.row (ends_of level.now.documents) }
+    ensures small { IsTrue result → stream_size level.now row.now.row < 2 ^ 64 }
 {
     if !is_end_term(term) {
         return false;
     }
     // This call tells that the stream has no more bytes than a number can count.
-    let (_stream, _summary) = level.stream_place(row);
-    level.count(row) == level.documents().len() as u64
+    let (_stream, _summary) = places(level, row);
+    counts(level, row) == level.documents().len() as u64
+}
+
+// At how many locations the term of a row stands, as its row says.
+fn counts(level: &OpenLevel, row: &TermCursor<'_>) -> u64
+    requires { row.now.tables ≡ level.now }
+    ensures { result ≡ slice_index (counts_of level.now.terms) row.now.row }
+{
+    row.count()
 }
 
 // The list of all ends of a level, as its rows have them.
@@ -302,14 +337,14 @@ fn held(
     kept: &mut KeptLists,
     number: u64,
     level: &OpenLevel,
-    row: usize,
+    row: &TermCursor<'_>,
     term: &[u8],
     posting: Posting,
 ) -> Result<Stored, AllocError>
-    requires term { slice_get (level_terms level.now) row ≡ Some term.now }
-    requires keeps { KeepsRow level.now row posting }
+    requires term { slice_get (level_terms level.now) row.now.row ≡ Some term.now }
+    requires keeps { KeepsRow level.now row.now.row posting }
     ensures stored { IfOk result (λ stored. stored_list stored ≡ posting) }
-    ensures kept { KeepsAlso number row posting kept.old kept.new }
+    ensures kept { KeepsAlso number row.now.row posting kept.old kept.new }
 {
     if is_end_term(term) {
         return Ok(Stored::Ends(level.rows().clone()?));
@@ -317,12 +352,12 @@ fn held(
     if !is_long(&posting) {
         return Ok(Stored::Coded(posting));
     }
-    let (stream, summary) = level.stream_place(row);
+    let (stream, summary) = row.stream_place();
     let bytes = stream.bytes.saturating_add(summary.bytes);
     let posting = Rc::new(alloc, posting)?;
     let list = KeptList {
         number,
-        row,
+        row: row.row(),
         posting: posting.clone()?,
     };
     kept.keep(list, bytes);

@@ -144,13 +144,13 @@ map_at f (t ∷ rows) zero d lt = refl
 map_at f (t ∷ rows) (suc row) d lt = map_at f rows row d (omega (arith, lt))
 
 -- a number of the row that a walk passed last
-passed_at : (p : Parts) (row : ℕ) (w : Walk) (f : TermRow → ℕ) → HasPassed p row w → f (row_of w) ≡ get_or (map f (terms_at p)) row 0
+passed_at : (p : Parts) (row : ℕ) (w : Walk) (f : TermRow → ℕ) → HasPassed p.terms row w → f (row_of w) ≡ get_or (map f (terms_at p)) row 0
 passed_at p row w f h = ap f h.row_is ∙ sym (map_at f (terms_at p) row (row_of w) h.within)
 
-pub count_is : (p : Parts) (row : ℕ) (w : Walk) → HasPassed p row w → w.count ≡ get_or (counts_of (terms_at p)) row 0
+pub count_is : (p : Parts) (row : ℕ) (w : Walk) → HasPassed p.terms row w → w.count ≡ get_or (counts_of (terms_at p)) row 0
 count_is p row w h = passed_at p row w (λ t. t.count) h
 
-pub term_is : (p : Parts) (row : ℕ) (w : Walk) → HasPassed p row w → slice_get (terms_of (terms_at p)) row ≡ Some (term_of w)
+pub term_is : (p : Parts) (row : ℕ) (w : Walk) → HasPassed p.terms row w → slice_get (terms_of (terms_at p)) row ≡ Some (term_of w)
 term_is p row w h = got (terms_at p) row (row_of w) h.within ∙ ap (λ (t : TermRow). Some t.term) (sym h.row_is)
   where
     got : (rows : List TermRow) (row : ℕ) (d : TermRow) → row < length rows → slice_get (terms_of rows) row ≡ Some (get_or rows row d).term
@@ -159,19 +159,19 @@ term_is p row w h = got (terms_at p) row (row_of w) h.within ∙ ap (λ (t : Ter
     got (t ∷ rows) (suc row) d lt = got rows row d (omega (arith, lt))
 
 -- where the row's stream begins: its bytes, its summary's, and those behind it stand from there to the end of the segment
-pub stream_from : (p : Parts) (row : ℕ) (w : Walk) → AreParts p → HasPassed p row w → stream_place (tables_in p) row + w.stream + w.summary + w.left ≡ p.end
+pub stream_from : (p : Parts) (row : ℕ) (w : Walk) → AreParts p → HasPassed p.terms row w → stream_place (tables_in p) row + w.stream + w.summary + w.left ≡ p.end
 stream_from p row w a h =
     omega (arith, h.stands.sum, a.held.sum, a.ends, sum_by_more data_of (terms_at p) row (row_of w) h.within, ap data_of h.row_is)
 
 abbrev extent : ℕ → ℕ → Extent
 extent place bytes = record { place = place; bytes = bytes }
 
-pub stream_extent_is : (p : Parts) (row : ℕ) (w : Walk) → AreParts p → HasPassed p row w → extent (p.end - w.left - w.summary - w.stream) w.stream ≡ stream_extent (tables_in p) row
+pub stream_extent_is : (p : Parts) (row : ℕ) (w : Walk) → AreParts p → HasPassed p.terms row w → extent (p.end - w.left - w.summary - w.stream) w.stream ≡ stream_extent (tables_in p) row
 stream_extent_is p row w a h =
     let place : p.end - w.left - w.summary - w.stream ≡ stream_place (tables_in p) row = omega (arith, stream_from p row w a h) in
     ap (λ (k : ℕ). extent k w.stream) place ∙ ap (λ (k : ℕ). extent (stream_place (tables_in p) row) k) (passed_at p row w (λ t. t.stream) h)
 
-pub summary_extent_is : (p : Parts) (row : ℕ) (w : Walk) → AreParts p → HasPassed p row w → extent (p.end - w.left - w.summary) w.summary ≡ summary_extent (tables_in p) row
+pub summary_extent_is : (p : Parts) (row : ℕ) (w : Walk) → AreParts p → HasPassed p.terms row w → extent (p.end - w.left - w.summary) w.summary ≡ summary_extent (tables_in p) row
 summary_extent_is p row w a h =
     let place : p.end - w.left - w.summary ≡ stream_place (tables_in p) row + get_or (streams_of (terms_at p)) row 0 = omega (arith, stream_from p row w a h, passed_at p row w (λ t. t.stream) h) in
     ap (λ (k : ℕ). extent k w.summary) place ∙ ap (λ (k : ℕ). extent (stream_place (tables_in p) row + get_or (streams_of (terms_at p)) row 0) k) (passed_at p row w (λ t. t.summary) h)

@@ -13,6 +13,7 @@ use Rattle.std.proofs.lemmas.Cmp.{tied_itself}
 use Rattle.std.proofs.lemmas.List.{get_or_default}
 use Rattle.std.proofs.lemmas.Bool.{cases_lt, and_parts, eqb-true, eq-eqb}
 use Rattle.alta_codec.specs.Order.{Precedes}
+use Rattle.alta_table.specs.declared.walk.Walk.{Walk}
 use Rattle.alta_table.specs.declared.marks.Mark.{Mark}
 use Rattle.alta_table.specs.declared.term.TermRow.{TermRow}
 use Rattle.alta_table.specs.declared.terms.HeldTerms.{HeldTerms}
@@ -299,9 +300,9 @@ none_at (row ∷ rows) none =
     (λ (other : is_end row ≡ false). rw other (none_at rows (λ i. none (suc i))))
     (cases_bool (is_end row))
 
-pub has_end_is : (rows : List TermRow) (found : Option ℕ) → MatchOption found ((i : ℕ) → slice_get (terms_of rows) i ≡ Some (68 ∷ []) → ⊥) (λ i. slice_get (terms_of rows) i ≡ Some (68 ∷ [])) → is_some found ≡ list_any is_end rows
+pub has_end_is : (rows : List TermRow) (found : Option (ℕ × Walk)) → MatchOption found ((i : ℕ) → slice_get (terms_of rows) i ≡ Some (68 ∷ []) → ⊥) (λ x. slice_get (terms_of rows) x.0 ≡ Some (68 ∷ [])) → is_some found ≡ list_any is_end rows
 has_end_is rows None none = sym (none_at rows none)
-has_end_is rows (Some i) here = sym (any_at rows i here)
+has_end_is rows (Some x) here = sym (any_at rows x.0 here)
 
 pub some_term : (rows : List TermRow) → HasEnd rows → 0 < length rows
 some_term [] h = absurd cc

@@ -1,9 +1,10 @@
 -- Where names, streams and summaries stand on the disk, and what is kept of tables.
-use Rattle.std.specs.Prelude.{◌≡◌, ◌<◌, ◌≤◌, ◌^◌, ℕ, ◌+◌, ◌-◌, List, [], ◌∷◌, length, take, map, slice_index, slice_index_or}
+use Rattle.std.specs.Prelude.{◌≡◌, ◌<◌, ◌≤◌, ◌^◌, ℕ, ◌+◌, ◌-◌, Option, Some, None, List, [], ◌∷◌, length, take, map, slice_index, slice_index_or}
 use Rattle.std.specs.List.{sum_by}
 use Rattle.alta_codec.specs.declared.extent.Extent.{Extent}
 use Rattle.alta_content.specs.declared.document.DocRow.{DocRow}
 use Rattle.alta_table.specs.declared.parts.Parts.{Parts}
+use Rattle.alta_table.specs.declared.terms.HeldTerms.{HeldTerms}
 use Rattle.alta_table.specs.declared.walk.Walk.{Walk}
 use Rattle.alta_table.specs.Marks.{IsHeld, StandsBefore, rows_in}
 use Rattle.alta_table.specs.Walks.{behind_of, row_of}
@@ -54,9 +55,14 @@ pub record TermAt : Type 0 where
   pub tables : Tables
   pub row : ℕ
 
+-- the row where there is one
+abbrev pub row_at : Option TermAt → Option ℕ
+row_at None = None
+row_at (Some at) = Some at.row
+
 -- a walk has passed a row of the terms
-pub record HasPassed (p : Parts) (row : ℕ) (walk : Walk) : Type 0 where
-  pub within : row < length (rows_in p.terms)
-  pub stands : StandsBefore p.terms (row + 1) (behind_of walk) walk.rest.now
-  pub row_is : row_of walk ≡ slice_index_or (rows_in p.terms) row (row_of walk)
+pub record HasPassed (terms : HeldTerms) (row : ℕ) (walk : Walk) : Type 0 where
+  pub within : row < length (rows_in terms)
+  pub stands : StandsBefore terms (row + 1) (behind_of walk) walk.rest.now
+  pub row_is : row_of walk ≡ slice_index_or (rows_in terms) row (row_of walk)
   pub short : walk.len ≤ 129

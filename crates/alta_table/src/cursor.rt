@@ -20,13 +20,13 @@ impl<'a> Model for TermCursor<'a> {
 
     ghost view = { λ c. record { tables = tables_in c.parts.now; row = c.row } };
 
-    ghost invariant = { λ c. AreParts c.parts.now × HasPassed c.parts.now c.row c.walk };
+    ghost invariant = { λ c. AreParts c.parts.now × HasPassed c.parts.now.terms c.row c.walk };
 }
 
 impl<'a> TermCursor<'a> {
     ghost use Rattle.std.specs.Prelude.{◌≡◌, ◌+◌, ◌<◌, ◌≤◌, length, Some, slice_get, slice_index};
     ghost use Rattle.alta_table.specs.Marks.{rows_in};
-    ghost use Rattle.alta_table.specs.Places.{AreParts, stream_extent, summary_extent, tables_in};
+    ghost use Rattle.alta_table.specs.Places.{AreParts, HasPassed, stream_extent, summary_extent, tables_in};
     ghost use Rattle.alta_table.specs.Tables.{total_of};
     ghost use Rattle.alta_table.specs.Terms.{counts_of, terms_of};
 
@@ -41,6 +41,35 @@ impl<'a> TermCursor<'a> {
             parts,
             row,
             walk: parts.terms.walk_behind(row),
+        }
+    }
+
+    // At a row that a walk has passed.
+    pub(crate) fn behind(parts: &'a Parts, row: usize, walk: Walk<'a>) -> TermCursor<'a>
+        requires parts { AreParts parts.now }
+        requires passed { HasPassed parts.now.terms row walk }
+        ensures tables { result.tables ≡ tables_in parts.now }
+        ensures row { result.row ≡ row }
+    {
+        TermCursor { parts, row, walk }
+    }
+
+    /// The number of the row.
+    pub fn row(&self) -> usize
+        ensures row { result ≡ self.now.row }
+        ensures within { result < length self.now.tables.terms }
+    {
+        self.row
+    }
+
+    /// Another cursor at the row.
+    pub fn copy(&self) -> TermCursor<'a>
+        ensures { result ≡ self.now }
+    {
+        TermCursor {
+            parts: self.parts,
+            row: self.row,
+            walk: self.walk,
         }
     }
 

@@ -1,7 +1,8 @@
 // Looking for terms: by halves among the marks, and then row by row.
-ghost use Rattle.std.specs.Prelude.{◌≡◌, ◌⊎◌, ◌+◌, ◌*◌, ◌<◌, ◌≤◌, ℕ, Some, MatchOption, length, slice_get, slice_index_or, true, false};
+ghost use Rattle.std.specs.Prelude.{◌≡◌, ◌⊎◌, ◌+◌, ◌*◌, ◌<◌, ◌≤◌, ℕ, Some, IfSome, MatchOption, length, slice_get, slice_index_or, true, false};
 ghost use Rattle.std.specs.List.Sorted.{IsPartitionPoint};
 ghost use Rattle.alta_table.specs.Marks.{IsHeld, StandsBefore, head_of, rows_in};
+ghost use Rattle.alta_table.specs.Places.{HasPassed};
 ghost use Rattle.alta_table.specs.Terms.{terms_of};
 ghost use Rattle.alta_table.specs.Walks.{behind_of, row_of};
 ghost use Rattle.alta_table.specs.Search.{IsPrefixRange, stands_by};
@@ -45,8 +46,7 @@ fn point<'a>(terms: &'a HeldTerms, prefix: &[u8], begun: bool) -> (usize, Walk<'
     requires { IsHeld terms.now 0 }
     ensures within { result.0 ≤ length (rows_in terms.now) }
     ensures point { IsPartitionPoint (λ row. stands_by prefix.now begun row.term ≡ true) (λ row. stands_by prefix.now begun row.term ≡ false) (rows_in terms.now) result.0 }
-    ensures row { result.0 < length (rows_in terms.now) → row_of result.1 ≡ slice_index_or (rows_in terms.now) result.0 (row_of result.1) }
-    ensures short { result.1.len ≤ 129 }
+    ensures passed { result.0 < length (rows_in terms.now) → HasPassed terms.now result.0 result.1 }
 {
     let mark = last_mark(&terms.marks, prefix, begun);
     let mut walk = terms.walk_from(mark);
@@ -61,16 +61,21 @@ fn point<'a>(terms: &'a HeldTerms, prefix: &[u8], begun: bool) -> (usize, Walk<'
     (row, walk)
 }
 
-/// The row of a term, None exactly where it is not there.
-pub fn find_in(terms: &HeldTerms, term: &[u8]) -> Option<usize>
+/// The row of a term, and a walk that has passed it, None exactly where the term is not there.
+pub fn find_in<'a>(terms: &'a HeldTerms, term: &[u8]) -> Option<(usize, Walk<'a>)>
     requires { IsHeld terms.now 0 }
-    ensures { MatchOption result ((i : ℕ) → slice_get (terms_of (rows_in terms.now)) i ≡ Some term.now → ⊥) (λ i. slice_get (terms_of (rows_in terms.now)) i ≡ Some term.now) }
+    ensures row { MatchOption result ((i : ℕ) → slice_get (terms_of (rows_in terms.now)) i ≡ Some term.now → ⊥) (λ x. slice_get (terms_of (rows_in terms.now)) x.0 ≡ Some term.now) }
+    ensures passed { IfSome result (λ x. HasPassed terms.now x.0 x.1) }
 {
     let (row, walk) = point(terms, term, false);
     if row >= terms.count {
         return None;
     }
-    if walk.term() == term { Some(row) } else { None }
+    if walk.term() == term {
+        Some((row, walk))
+    } else {
+        None
+    }
 }
 
 /// The first row whose term begins with the prefix, and the row behind the last.

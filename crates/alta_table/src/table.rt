@@ -1,5 +1,5 @@
 // The tables of a segment, opened.
-ghost use Rattle.std.specs.Prelude.{◌≡◌, ℕ, ◌+◌, ◌-◌, ◌<◌, ◌≤◌, ◌^◌, length, take, Some, Ok, IfOk, MatchOption, slice_get, slice_index};
+ghost use Rattle.std.specs.Prelude.{◌≡◌, ℕ, ◌+◌, ◌-◌, ◌<◌, ◌≤◌, ◌^◌, length, take, Some, Ok, IfOk, IfSome, MatchOption, slice_get, slice_index};
 ghost use Rattle.std.specs.List.{list_any, starts_with};
 ghost use Rattle.alta_table.specs.Answers.{Answers, IfDamaged, IsDamaged, IsFound};
 ghost use Rattle.alta_codec.specs.Rising.{IsRising};
@@ -7,7 +7,7 @@ ghost use Rattle.alta_content.specs.Rows.{ends_of, start};
 ghost use Rattle.alta_table.specs.Terms.{AreTerms, counts_of, data_bytes, is_end, terms_of};
 ghost use Rattle.alta_table.specs.Tables.{AreTables, IsDamage, KeepRules, Tables, read_head, tables_bytes, tables_of, total_of};
 ghost use Rattle.alta_table.specs.Marks.{IsHeld, rows_in};
-ghost use Rattle.alta_table.specs.Places.{name_place, name_places, stream_extent, summary_extent, tables_in};
+ghost use Rattle.alta_table.specs.Places.{name_place, name_places, row_at, stream_extent, summary_extent, tables_in};
 ghost use Rattle.alta_table.specs.Search.{IsPrefixRange};
 ghost use Rattle.alta_table.specs.declared.sizes.Head.{Head};
 
@@ -195,11 +195,25 @@ impl OpenLevel {
         self.at(row).count()
     }
 
-    /// The row of a term, None exactly where it is not there. It looks by halves.
+    /// The row of a term, and what it says, None exactly where the term is not there. It looks by halves.
+    pub fn look_up(&self, term: &[u8]) -> Option<TermCursor<'_>>
+        ensures tables { IfSome result (λ c. c.tables ≡ self.now) }
+        ensures row { MatchOption (row_at result) ((i : ℕ) → slice_get (terms_of self.now.terms) i ≡ Some term.now → ⊥) (λ i. slice_get (terms_of self.now.terms) i ≡ Some term.now) }
+    {
+        match find_in(&self.parts.terms, term) {
+            Some((row, walk)) => Some(TermCursor::behind(&self.parts, row, walk)),
+            None => None,
+        }
+    }
+
+    /// The number of a term's row, None exactly where the term is not there. It looks by halves.
     pub fn find(&self, term: &[u8]) -> Option<usize>
         ensures { MatchOption result ((i : ℕ) → slice_get (terms_of self.now.terms) i ≡ Some term.now → ⊥) (λ i. slice_get (terms_of self.now.terms) i ≡ Some term.now) }
     {
-        find_in(&self.parts.terms, term)
+        match self.look_up(term) {
+            Some(cursor) => Some(cursor.row()),
+            None => None,
+        }
     }
 
     /// The rows of the terms that begin with a prefix: the first, and the row behind the last. The two are equal where

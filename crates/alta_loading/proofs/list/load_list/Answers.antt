@@ -8,7 +8,7 @@ use Rattle.alta_loading.proofs.list.load_list.Goals as goal
 
 pub returns-clause-broken : goal.returns-clause-broken
 returns-clause-broken g c = λ told.
-    let level = c.args.table.now in let row = c.args.row in
+    let level = c.args.table.now in let row = c.args.row.now.row in
     let image = (g.D.Disk.state c.args.disk.now).content in
     let s : Stored = stored_as level row c.in_ok-stream.stream.items c.in_ok-stream.summary.items in
     damaged_goes c.checked.result (IsListFault level.documents s) (IsBrokenIn level image)

@@ -9,7 +9,7 @@ use Rattle.alta_loading.proofs.list.read_bytes.Goals as goal
 
 pub returns-clause-stored : goal.returns-clause-stored
 returns-clause-stored g c = λ told.
-    let level = c.args.table.now in let row = c.args.row in
+    let level = c.args.table.now in let row = c.args.row.now.row in
     let image = (g.D.Disk.state c.args.disk.now).content in
     let s : Extent = c.places.result.0 in let t : Extent = c.places.result.1 in
     let n : ℕ = c.in-Some.end - s.place in

@@ -12,7 +12,7 @@ use Rattle.alta_loading.proofs.term.counts_all_ends.Goals as goal
 
 pub returns-clause-ends : goal.returns-clause-ends
 returns-clause-ends c = λ counted image whole_ends.
-    let level = c.args.level.now in let row = c.args.row in
+    let level = c.args.level.now in let row = c.args.row.now.row in
     let yes : c.is_end_term.result ≡ true = search rules in
     let term : c.args.term.now ≡ end_term = c.is_end_term.ensures.0 yes in
     let is = c.requires.term in
@@ -21,9 +21,9 @@ returns-clause-ends c = λ counted image whole_ends.
 
 pub returns-clause-kept : goal.returns-clause-kept
 returns-clause-kept c = λ counted.
-    let level = c.args.level.now in let row = c.args.row in let stand = c.documents.ensures.kept.documents_stand in
+    let level = c.args.level.now in let row = c.args.row.now.row in let stand = c.documents.ensures.kept.documents_stand in
     let many : length (ends_of level.documents) ≡ length level.documents = ends_many level.documents in
-    let same : slice_index (counts_of level.terms) row ≡ length level.documents = grind (arith, counted) in
+    let same : slice_index (counts_of level.terms) row ≡ length level.documents = grind (arith, counted, c.counts.ensures) in
     record {
       some = omega (arith, many, c.documents.ensures.kept.some);
       rising = ends_rise level.documents stand;

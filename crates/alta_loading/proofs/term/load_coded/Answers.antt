@@ -1,4 +1,4 @@
-use Rattle.std.proofs.Common.{refl, List, [], ◌∷◌, ℕ, ◌+◌, ◌++◌, take, drop, Vec, Global, map, sym, subst, ap, ◌∙◌}
+use Rattle.std.proofs.Common.{refl, List, ℕ, ◌+◌, ◌++◌, take, drop, Vec, Global, map, sym, subst, ap, ◌∙◌}
 use Rattle.std.proofs.lemmas.List.Elements.{All-get_or}
 use Rattle.std.proofs.lemmas.Option.{slice_get_read}
 use Rattle.alta_loading.proofs.KeptLaws.{kept_next}
@@ -8,7 +8,6 @@ use Rattle.alta_loading.proofs.TestedEnds.{one_tested}
 use Rattle.alta_search.specs.Lists.{level_in, level_list}
 use Rattle.alta_loading.specs.Lists.{LiesWithin}
 use Rattle.alta_loading.specs.Loads.{Load, load_in, loads_from}
-use Rattle.alta_loading.specs.Tested.{AreEndsWhole}
 use Rattle.alta_search.specs.declared.lists.LevelList.{LevelList}
 use Rattle.alta_loading.proofs.term.load_coded.Goals as goal
 

@@ -29,11 +29,11 @@ returns-then-not-stands-clause-point c =
     let fails : stands_at c.args.prefix.now c.args.begun (row_of c.pass.new.self) ≡ false = ap (stands_by c.args.prefix.now c.args.begun) (sym c.term.ensures) ∙ sym c.stands.ensures ∙ no in
     point_at (rows_in c.args.terms.now) c.args.prefix.now c.args.begun c.rows.row (row_of c.pass.new.self) c.requires.stand (omega (arith, lt, c.requires.many)) is fails c.rows.invariant.before
 
-pub returns-then-not-stands-clause-row : goal.returns-then-not-stands-clause-row
-returns-then-not-stands-clause-row c = λ within.
+pub returns-then-not-stands-clause-passed : goal.returns-then-not-stands-clause-passed
+returns-then-not-stands-clause-passed c = λ within.
     let lt : c.rows.row < c.args.terms.now.count = omega (arith, c.rows-test.true) in
     let (stands, is) = passed c.args.terms.now 0 c.rows.row c.rows.walk c.pass.new.self c.requires lt c.pass.ensures.reads c.pass.ensures.left c.rows.invariant.stands in
-    is
+    record { within = within; stands = stands; row_is = is; short = c.pass.ensures.short }
 
 pub overflow_add-row : goal.overflow_add-row
 overflow_add-row c = omega (arith, c.rows-test.true, c.requires.small)
