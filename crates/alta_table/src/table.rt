@@ -1,10 +1,10 @@
 // The tables of a segment, opened.
-ghost use Rattle.std.specs.Prelude.{◌≡◌, ℕ, ◌+◌, ◌-◌, ◌<◌, ◌≤◌, ◌^◌, length, take, Some, Ok, IfOk, IfSome, MatchOption, slice_get, slice_index};
+ghost use Rattle.std.specs.Prelude.{◌≡◌, ℕ, ◌+◌, ◌-◌, ◌<◌, ◌≤◌, ◌^◌, length, take, Some, Ok, IfOk, IfSome, MatchOption, slice_get};
 ghost use Rattle.std.specs.List.{list_any, starts_with};
 ghost use Rattle.alta_table.specs.Answers.{Answers, IfDamaged, IsDamaged, IsFound};
 ghost use Rattle.alta_codec.specs.Rising.{IsRising};
 ghost use Rattle.alta_content.specs.Rows.{ends_of, start};
-ghost use Rattle.alta_table.specs.Terms.{AreTerms, counts_of, data_bytes, is_end, terms_of};
+ghost use Rattle.alta_table.specs.Terms.{AreTerms, data_bytes, is_end, terms_of};
 ghost use Rattle.alta_table.specs.Tables.{AreTables, IsDamage, KeepRules, Tables, read_head, tables_bytes, tables_of, total_of};
 ghost use Rattle.alta_table.specs.Marks.{IsHeld, rows_in};
 ghost use Rattle.alta_table.specs.Places.{name_place, name_places, row_at, stream_extent, summary_extent, tables_in};
@@ -185,14 +185,6 @@ impl OpenLevel {
         ensures row { result.row ≡ row }
     {
         TermCursor::at(&self.parts, row)
-    }
-
-    /// At how many locations the term of a row stands, as its row says.
-    pub fn count(&self, row: usize) -> u64
-        requires { row < length self.now.terms }
-        ensures { result ≡ slice_index (counts_of self.now.terms) row }
-    {
-        self.at(row).count()
     }
 
     /// The row of a term, and what it says, None exactly where the term is not there. It looks by halves.
