@@ -6,7 +6,8 @@
 // same, as Linux has it: a later sync leaves them out.
 //
 // EDGE_FILE names the file. EDGE_FAIL is the number of the sync, from 1, from which on each fails; EDGE_DIE that of one that fails, and
-// inside of which the process is killed; EDGE_STOP that of the sync behind which it is killed. EDGE_FOLDER is the error of each sync of a folder. EDGE_INTERRUPT is a call that fails once as interrupted.
+// inside of which the process is killed; EDGE_STOP that of the sync behind which it is killed. EDGE_FOLDER is the error of each sync of a
+// folder. EDGE_INTERRUPT is a call that fails once as interrupted, and EDGE_MOST how many bytes each write to the standard output takes.
 // EDGE_BLOCK makes the file a block device, of which the system tells no length. `log` in the folder has a line for each sync.
 #define _GNU_SOURCE
 #include <dlfcn.h>
@@ -146,5 +147,12 @@ ssize_t write(int fd, const void *bytes, size_t n) {
     static ssize_t (*real)(int, const void *, size_t);
     if (!real)
         real = dlsym(RTLD_NEXT, "write");
-    return fd == 1 && interrupts("write") ? -1 : real(fd, bytes, n);
+    if (fd == 1 && interrupts("write"))
+        return -1;
+    if (fd == 1 && getenv("EDGE_MOST")) {
+        size_t most = number("EDGE_MOST");
+        n = n < most ? n : most;
+        return n ? real(fd, bytes, n) : 0;
+    }
+    return real(fd, bytes, n);
 }

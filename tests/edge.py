@@ -346,6 +346,15 @@ class Device(Edge):
             with self.subTest(call=call):
                 self.answered("documents 0 words 0 next 1\n", **self.on_device(interrupt=call))
 
+    def test_an_output_that_takes_a_few_bytes_at_a_time(self):
+        self.make()
+        self.answered("documents 0 words 0 next 1\n", **self.on_device(most=3))
+
+    def test_an_output_that_takes_no_byte(self):
+        self.make()
+        ended = run(self.path, "run", given="stats\n", **self.on_device(most=0))
+        self.assertEqual(ended, (4, "", "alta: output fault\nalta: write: write zero\n"))
+
     def test_the_folder_is_synced_where_the_file_is_made(self):
         self.begin()
         self.assertEqual(self.synced()[0], f"fsync {os.path.realpath(self.folder)}")

@@ -9,8 +9,6 @@ ghost use Rattle.alta_meaning.specs.Standing.{StandsFor};
 
 mod answering;
 mod refusal;
-#[cfg(test)]
-mod tests;
 
 pub use answering::answer;
 pub use refusal::Refusal;
