@@ -4,10 +4,11 @@ use Rattle.std.specs.Prelude.{All, Contains}
 use Rattle.std.proofs.lemmas.List.Elements.{All-nil, All-cons, All-head}
 use Rattle.alta_codec.specs.Rising.{IsRising}
 use Rattle.alta_codec.proofs.Places.{not-Contains-nil}
-use Rattle.alta_compound.specs.Same.{in_union}
+use Rattle.alta_compound.proofs.Permuted.{in_union}
 use Rattle.alta_docread.specs.Kept.{common}
 use Rattle.alta_docread.specs.KeptLaws.{less-has, less-rises, common-has, common-rises}
-use Rattle.alta_docread.specs.SolutionLaws.{found-leads, found-rises}
+use Rattle.alta_docread.specs.SolutionLaws.{found-rises}
+use Rattle.alta_docread.proofs.Solved.{found-leads}
 use Rattle.alta_docread.specs.TreeLaws.{union-all-rises}
 use Rattle.alta_compile.specs.Space.{Placed, IsSpace, document_end, list_of, ends_of}
 use Rattle.alta_machine.specs.Plans.{Tree, found, all_of, any_of, without, Trees, no_more, also}

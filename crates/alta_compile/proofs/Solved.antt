@@ -10,7 +10,8 @@ use Rattle.alta_machine.specs.declared.test.Test.{Test}
 use Rattle.alta_codec.specs.Inequality.{Inequality, upper, lower}
 use Rattle.alta_solver.specs.Solution.{list_at, MeetsBound, IsSolution}
 use Rattle.alta_docread.specs.Solutions.{found_list, Leads}
-use Rattle.alta_docread.specs.SolutionLaws.{found-leads, leads-found}
+use Rattle.alta_docread.specs.SolutionLaws.{leads-found}
+use Rattle.alta_docread.proofs.Solved.{found-leads}
 use Rattle.alta_compile.specs.Space.{Placed, end_of, list_of, ends_of, IsSpace}
 use Rattle.alta_machine.specs.PlanOf.{held, between, found_of}
 use Rattle.alta_compile.proofs.Joins.{AreKept, AreNamed, Meets, meets_satisfies}

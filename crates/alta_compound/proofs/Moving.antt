@@ -12,8 +12,9 @@ use Rattle.alta_codec.specs.declared.location.TheConstants.{TOP}
 use Rattle.alta_codec.specs.Rising.{first_from, pred_of}
 use Rattle.alta_codec.proofs.Places.{first_from-above, first_from-least, pred_of-is, pred_of-place, pred_of-greatest}
 use Rattle.alta_compound.specs.Moves.{GoesTo, MovesThoseBefore, MovesFirst}
-use Rattle.alta_compound.specs.Same.{in_union, of_list}
-use Rattle.alta_compound.specs.OverReaders.{in_step_place, least_of-le, has_place}
+use Rattle.alta_compound.proofs.Permuted.{in_union, of_list}
+use Rattle.alta_compound.specs.OverReaders.{in_step_place, has_place}
+use Rattle.alta_compound.proofs.InStep.{least_of-le}
 use Rattle.alta_compound.specs.Union.{union_of, least_of, IsInStep}
 use Rattle.alta_compound.proofs.Heaps.{same_or_not, some_of}
 

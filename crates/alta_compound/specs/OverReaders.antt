@@ -2,16 +2,16 @@
 use Rattle.std.proofs.Common.{◌≡◌, ⊎_elim, inl, inr, ℕ, ◌<◌, ◌≤◌, min, List, [], ◌∷◌, map, length, get_or, refl, sym, subst, ap, ◌∙◌, arith}
 use Rattle.std.specs.Prelude.{Contains, All, sum_by, ◌↔◌}
 use Rattle.std.specs.List.{concat}
-use Rattle.std.proofs.lemmas.List.{get_or-map, length-map, get_or_default}
+use Rattle.std.proofs.lemmas.List.{get_or-map, length-map}
 use Rattle.std.proofs.lemmas.List.Sums.{sum_by-cons}
 use Rattle.std.proofs.lemmas.List.Elements.{Contains-get_or, All-head, All-tail, Contains-append_cases, Contains-append_left, Contains-append_right}
 use Rattle.alta_codec.specs.declared.location.TheConstants.{TOP}
 use Rattle.alta_codec.specs.Rising.{IsRising, IsPlace, first_from, count_from}
-use Rattle.alta_codec.proofs.Places.{Contains-cases, not-Contains-nil, first_from-nil, first_from-least, first_from-place, first_from-above}
+use Rattle.alta_codec.proofs.Places.{first_from-nil, first_from-least, first_from-place, first_from-above}
 use Rattle.alta_compound.specs.Gathered.{gathered}
 use Rattle.alta_compound.specs.Same.{count_from-append, count_from-nil, sorted-count, sorted-members}
 use Rattle.alta_compound.specs.Union.{union_of, least_of, IsInStep}
-use Rattle.alta_compound.specs.Unions.{union-first, union-has, union-keeps, union-rises, above_from_rising, rising_from_above, first_stays, count_same}
+use Rattle.alta_compound.specs.Unions.{union-first, union-has, union-keeps, union-rises, above_from_rising, rising_from_above, count_same}
 
 pub least_of-le_top : (xs : List ℕ) → least_of xs ≤ TOP
 least_of-le_top [] = omega arith
@@ -29,10 +29,6 @@ module _ {R : Type 0} (f : R → List ℕ) where
   unfolding union_of
   union_of-first [] t = first_from-nil t
   union_of-first (r ∷ rs) t = union-first (f r) (union_of (map f rs)) t ∙ ap (λ x. min (first_from (f r) t) x) (union_of-first rs t)
-
-pub least_of-le : (xs : List ℕ) (x : ℕ) → Contains xs x → least_of xs ≤ x
-least_of-le [] x m = absurd (not-Contains-nil x m)
-least_of-le (y ∷ ys) x m = ⊎_elim (λ e. omega (arith, e)) (λ n. omega (arith, least_of-le ys x n)) (Contains-cases y ys x m)
 
 pub has_place : {R : Type 0} (h : R → ℕ) (rs : List R) (k : ℕ) (d : R) → k < length rs → Contains (map h rs) (h (get_or rs k d))
 has_place h rs k d l = subst (λ v. Contains (map h rs) v) (get_or-map h rs k d 0 l) (Contains-get_or (map h rs) k 0 (rw length-map l))
@@ -53,21 +49,6 @@ in_step-le_top f h rs m s = omega (arith, s.least, least_of-le_top (map h rs))
 pub in_step_place : {R : Type 0} (f : R → List ℕ) (h : R → ℕ) (rs : List R) (m : ℕ) → IsInStep f h rs m → IsPlace (union_of (map f rs)) m
 in_step_place f h rs m s =
     subst (λ v. IsPlace (union_of (map f rs)) v) (sym (in_step_at f h rs m s)) (first_from-place (union_of (map f rs)) m)
-
--- readers that each went to the first from a place are in step
-pub in_step_after : {R : Type 0} (f : R → List ℕ) (h : R → ℕ) (rs : List R) (to m : ℕ) → to ≤ TOP
-    → All (λ r. h r ≡ first_from (f r) to) rs → m ≡ least_of (map h rs)
-    → IsInStep f h rs m × (m ≡ first_from (union_of (map f rs)) to)
-in_step_after f h rs to m top each least =
-    let e : m ≡ first_from (union_of (map f rs)) to = least ∙ ap least_of (map_agree h (λ r. first_from (f r) to) rs each) ∙ sym (union_of-first f rs to) in
-    let low : to ≤ m = omega (arith, e, first_from-above (union_of (map f rs)) to top) in (
-      record {
-        each = λ k d l. first_stays (f (get_or rs k d)) to m (h (get_or rs k d)) (each k d l) low
-            (omega (arith, least, least_of-le (map h rs) (h (get_or rs k d)) (has_place h rs k d l)));
-        least = least;
-      },
-      e,
-    )
 
 union_of-members : {R : Type 0} (f a : R → List ℕ) (rs : List R) → All (λ r. (x : ℕ) → Contains (a r) x ↔ Contains (f r) x) rs
     → (x : ℕ) → Contains (concat (map a rs)) x ↔ Contains (union_of (map f rs)) x
@@ -101,20 +82,6 @@ count_each : {R : Type 0} (f a : R → List ℕ) (h g : R → ℕ) (rs : List R)
     → All (λ r. g r ≡ count_from (a r) m) rs
 count_each f a h g rs m s members counted k d l =
     counted k d l ∙ count_in_step (f (get_or rs k d)) (a (get_or rs k d)) m (h (get_or rs k d)) (s.each k d l) (in_step-le_top f h rs m s) (members k d l)
-
--- readers in step, of which none is to pass an element when they go on to a higher place
-pub in_step_first : {R : Type 0} (f : R → List ℕ) (h : R → ℕ) (rs : List R) (m to : ℕ) → IsInStep f h rs m → m < to
-    → All (λ r. to ≤ h r → h r ≡ first_from (f r) to) rs
-in_step_first f h rs m to s lt k d l = λ le. first_stays (f (get_or rs k d)) m to (h (get_or rs k d)) (s.each k d l) (omega arith) le
-
-pub place-positive : (xs : List ℕ) (x : ℕ) → IsRising xs → IsPlace xs x → 0 < x
-place-positive xs x r p = ⊎_elim (λ (k, l, e). omega (arith, r.positive k l, get_or_default xs k x 0 l, e)) (λ t. omega (arith, t)) p
-
--- readers that all stand at or above a place, the least of which is below it
-pub not_all_passed : {R : Type 0} (f : R → List ℕ) (h : R → ℕ) (rs : List R) (m to : ℕ) → IsInStep f h rs m → m < to → to ≤ TOP
-    → All (λ r. h r ≡ first_from (f r) to) rs → ⊥
-not_all_passed f h rs m to s lt top each =
-    omega (arith, s.least, (in_step_after f h rs to m top each s.least).1, first_from-above (union_of (map f rs)) to top)
 
 -- the members of all readers are the elements of the union
 pub gathered-members : {R : Type 0} (f a : R → List ℕ) (rs : List R) → All (λ r. (x : ℕ) → Contains (a r) x ↔ Contains (f r) x) rs

@@ -3,8 +3,8 @@ use Rattle.std.proofs.Common.{◌≡◌, ◌⊎◌, ⊎_elim, inl, inr, ℕ, zer
 use Rattle.std.specs.Prelude.{Contains}
 use Rattle.std.proofs.lemmas.Bool.{cases_lt}
 use Rattle.alta_codec.specs.declared.location.TheConstants.{TOP}
-use Rattle.alta_codec.specs.Rising.{IsRising, IsPlace, first_from, pred_of, count_from}
-use Rattle.alta_codec.proofs.Places.{Contains-head, Contains-tail, Contains-cases, not-Contains-nil, first_from-le_top, first_from-above, first_from-is, first_from-least, first_from-place, pred_of-is, pred_of-place, pred_of-below, pred_of-greatest}
+use Rattle.alta_codec.specs.Rising.{IsRising, first_from, count_from}
+use Rattle.alta_codec.proofs.Places.{Contains-head, Contains-tail, Contains-cases, not-Contains-nil, first_from-le_top}
 use Rattle.alta_compound.specs.Union.{put, union}
 
 put-cases : (x y : ℕ) (ys : List ℕ)
@@ -128,19 +128,6 @@ pub union-rises : (xs ys : List ℕ) (low : ℕ) → RisesAbove low xs → Rises
 unfolding union
 union-rises [] ys low a b = b
 union-rises (x ∷ xs) ys low (a, t, r) b = put-rises 0 x (union xs ys) (omega arith) t (union-rises xs ys x r b)
-
--- one place, and the first from it in one list
-pub first_stays : (xs : List ℕ) (m t y : ℕ) → y ≡ first_from xs m → m ≤ t → t ≤ y → y ≡ first_from xs t
-first_stays xs m t y e low high =
-    first_from-is xs t y (subst (λ v. IsPlace xs v) (sym e) (first_from-place xs m)) (omega (arith, e, first_from-le_top xs m)) high
-    (λ z n h. omega (arith, e, first_from-least xs m z n (omega arith)))
-
-pub pred_same : (xs : List ℕ) (m y : ℕ) → y ≡ first_from xs m → 0 < m → m ≤ TOP → pred_of xs y ≡ pred_of xs m
-pred_same xs m y e positive top =
-    pred_of-is xs m (pred_of xs y) (pred_of-place xs y) positive
-    (⊎_elim (λ n. ⊎_elim (λ l. l) (λ ge. absurd (omega (arith, e, first_from-least xs m (pred_of xs y) n ge, first_from-above xs m top, pred_of-below xs y (omega (arith, e, first_from-above xs m top))))) (cases_lt (pred_of xs y) m))
-    (λ z. omega (arith, z)) (pred_of-place xs y))
-    (λ z n h. pred_of-greatest xs y z n (omega (arith, e, first_from-above xs m top)))
 
 pub count_same : (all : List ℕ) (m y : ℕ) → m ≤ y → ((z : ℕ) → Contains all z → m ≤ z → y ≤ z) → count_from all y ≡ count_from all m
 unfolding count_from

@@ -12,7 +12,8 @@ use Rattle.alta_codec.proofs.Places.{first_from-is, first_from-above, first_from
 use Rattle.alta_codec.specs.Rising.{first_from}
 use Rattle.alta_docread.specs.Moves.{IsKept}
 use Rattle.alta_docread.specs.Tree.{Tree, trees_of, tree_list, lists_of, tree_place, places_of, tree_all, all_in, tree_left, left_in, tree_depth, depth_in, IsAhead, AreAhead, IsSoundTree, AreSoundTrees, IsBrought, IsMoved}
-use Rattle.alta_docread.specs.TreeLaws.{tree_stands, tree_top}
+use Rattle.alta_docread.specs.TreeLaws.{tree_stands}
+use Rattle.alta_docread.proofs.Tops.{tree_top}
 
 -- what holds of each list holds of what is read at each tree, and the other way round
 pub of_each : {N : Type 0} {A : Type 0} (f : N → A) (P : A → Type 0) (ns : List N) → All (λ n. P (f n)) ns → All (λ a. P a) (map f ns)
@@ -126,21 +127,6 @@ brought_ahead old new to s some ahead b =
     ⊎_elim (λ lt. b.goes lt)
     (λ ge. b.stays ge ∙ first_from-is (tree_list old) to (tree_place old) (tree_stands old s (omega (arith, some, ge))) (tree_top old s) ge ahead)
     (cases_lt (tree_place old) to)
-
--- a tree that stands at or above `to` has moved there
-pub moved_still : (t : Tree) (to steps : ℕ) → IsSoundTree t → to ≤ tree_place t → IsMoved t t to steps steps
-moved_still t to steps s le =
-    record {
-      sound = s;
-      list = refl;
-      all = refl;
-      depth = refl;
-      one = λ o. o;
-      place = record { goes = λ lt. absurd (omega (arith, lt, le)); stays = λ ge. refl };
-      left = omega arith;
-      falls = λ b lt. absurd (omega (arith, lt, le));
-      steps = omega arith;
-    }
 
 pub moved_begun : (old new : Tree) (to before after : ℕ) → IsMoved old new to before after → 0 < to → to ≤ TOP → IsSoundTree new × (0 < tree_place new)
 moved_begun old new to before after m some top = (m.sound, omega (arith, brought_on old new to top m.place, some))

@@ -11,7 +11,7 @@ use Rattle.alta_compound.specs.Same.{count_from-append, count_from-nil}
 use Rattle.alta_codec.specs.Inequality.{Inequality}
 use Rattle.alta_solver.specs.Solution.{IsSolution}
 use Rattle.alta_docread.specs.Solutions.{IsHeld}
-use Rattle.alta_docread.specs.SolutionLaws.{solution_below}
+use Rattle.alta_docread.proofs.Solved.{solution_below}
 
 -- the count of each from a place at or above its own is at most what is left of it
 pub left_counts : {R : Type 0} (all : R → List ℕ) (place left : R → ℕ) (rs : List R) (at : ℕ)

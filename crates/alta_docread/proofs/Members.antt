@@ -3,7 +3,7 @@ use Rattle.std.proofs.Common.{◌≡◌, ℕ, ◌<◌, List, [], ◌∷◌, map,
 use Rattle.std.specs.Prelude.{All, Any, Contains, ◌↔◌}
 use Rattle.std.proofs.lemmas.List.{get_or-map, get_or_default, length-map}
 use Rattle.std.proofs.lemmas.List.Elements.{All-head, All-tail}
-use Rattle.alta_compound.specs.Same.{in_union, of_union}
+use Rattle.alta_compound.proofs.Permuted.{in_union, of_union}
 use Rattle.alta_docread.specs.KeptLaws.{common-has, common-keeps}
 use Rattle.alta_docread.specs.Tree.{Tree, trees_of, all_of, any_of, tree_list, lists_of, IsUnmoved, AreUnmoved}
 use Rattle.alta_docread.proofs.Each.{of_each, at_each, lists_each}

@@ -13,7 +13,8 @@ use Rattle.alta_docread.specs.KeptLaws.{common-has, common-keeps}
 use Rattle.alta_docread.specs.Moves.{IsKept, IsPassed, IsJoined}
 use Rattle.alta_codec.specs.Lists.{greatest_of}
 use Rattle.alta_docread.specs.Tree.{Tree, trees_of, all_of, tree_list, lists_of, tree_place, places_of, tree_left, IsSoundTree, IsAgreed, IsMoved}
-use Rattle.alta_docread.specs.TreeLaws.{tree_stands, tree_top}
+use Rattle.alta_docread.specs.TreeLaws.{tree_stands}
+use Rattle.alta_docread.proofs.Tops.{tree_top}
 use Rattle.alta_docread.proofs.Each.{of_each, at_each, each_sound, lists_each, places_each, all_each, left_each, kept_start, kept_on, kept_set, kept_length, left_set, brought_on, brought_later, brought_upto}
 
 greatest_of-le : (xs : List ℕ) (m : ℕ) → All (λ x. x ≤ m) xs → greatest_of xs ≤ m

@@ -9,7 +9,8 @@ use Rattle.alta_codec.specs.declared.location.TheConstants.{TOP}
 use Rattle.alta_codec.specs.Rising.{IsPlace, first_from}
 use Rattle.alta_codec.proofs.Places.{first_from-above, first_from-least, first_from-place, first_from-le_top}
 use Rattle.alta_compound.specs.Union.{union_of, least_of}
-use Rattle.alta_compound.specs.OverReaders.{in_step_after, least_of-le, has_place}
+use Rattle.alta_compound.specs.OverReaders.{has_place}
+use Rattle.alta_compound.proofs.InStep.{in_step_after, least_of-le}
 use Rattle.alta_compound.proofs.Moving.{same_map}
 use Rattle.alta_docread.specs.Moves.{IsKept, IsReached}
 use Rattle.alta_docread.specs.Tree.{Tree, trees_of, any_of, tree_list, lists_of, tree_place, places_of, tree_left, IsAhead, AreAhead, IsStanding, IsSoundTree, IsBrought, IsMoved}

@@ -10,7 +10,8 @@ use Rattle.alta_codec.specs.Inequality.{Inequality}
 use Rattle.alta_solver.specs.Solution.{list_at, IsSolution, IsAtLeast, IsLeast}
 use Rattle.alta_solver.proofs.Raised.{set_at_least, first_from-le_place}
 use Rattle.alta_docread.specs.Solutions.{found_list, IsHeld, IsReadyFrom, Walk, IsWalking, IsSoundWalk, IsWalked}
-use Rattle.alta_docread.specs.SolutionLaws.{found-leads, leads-found, solution_below, solution_above}
+use Rattle.alta_docread.specs.SolutionLaws.{leads-found}
+use Rattle.alta_docread.proofs.Solved.{found-leads, solution_below, solution_above}
 
 -- the first place after a raise
 pub raised_to : (xs old new : List ℕ) (to : ℕ) → 0 < length old → to ≤ TOP → new ≡ set old 0 (first_from xs to) → to ≤ get_or new 0 0

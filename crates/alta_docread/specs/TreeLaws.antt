@@ -1,14 +1,13 @@
 -- Each tree's list rises, and a tree that has begun stands at an element of its list, or at TOP.
-use Rattle.std.proofs.Common.{ℕ, ◌<◌, ◌≤◌, List, [], ◌∷◌}
+use Rattle.std.proofs.Common.{ℕ, ◌<◌, List, [], ◌∷◌}
 use Rattle.std.specs.Prelude.{All}
 use Rattle.std.proofs.lemmas.List.Elements.{All-nil, All-cons, All-head, All-tail}
-use Rattle.alta_codec.specs.declared.location.TheConstants.{TOP}
 use Rattle.alta_codec.specs.Rising.{IsRising, IsPlace}
 use Rattle.alta_compound.specs.Union.{union_of, union}
 use Rattle.alta_compound.specs.Unions.{union-rises, above_from_rising, rising_from_above}
 use Rattle.alta_docread.specs.KeptLaws.{less-rises, common-rises}
-use Rattle.alta_docread.specs.SolutionLaws.{walk_rises, walk_place, walk_within}
-use Rattle.alta_docread.specs.Tree.{Tree, Trees, found, all_of, any_of, without, none, more, tree_list, lists_of, tree_place, reader_places, IsOneFound, IsSoundTree, AreSoundTrees}
+use Rattle.alta_docread.specs.SolutionLaws.{walk_rises, walk_place}
+use Rattle.alta_docread.specs.Tree.{Tree, Trees, found, all_of, any_of, without, none, more, tree_list, lists_of, tree_place, IsSoundTree, AreSoundTrees}
 
 pub union-all-rises : (ls : List (List ℕ)) → All (λ l. IsRising l) ls → IsRising (union_of ls)
 unfolding union_of
@@ -34,16 +33,3 @@ tree_stands (found w) s begun = walk_place w s begun
 tree_stands (all_of ts) s begun = s.1.standing.stands begun
 tree_stands (any_of ts) s begun = s.1.standing.stands begun
 tree_stands (without at r t) s begun = s.1.standing.stands begun
-
-pub tree_top : (t : Tree) → IsSoundTree t → tree_place t ≤ TOP
-tree_top (found w) s = s.top
-tree_top (all_of ts) s = s.1.standing.top
-tree_top (any_of ts) s = s.1.standing.top
-tree_top (without at r t) s = s.1.standing.top
-
--- the readers of one Found stand at its place or before it
-pub tree_within : (t : Tree) → IsSoundTree t → IsOneFound t → 0 < tree_place t → tree_place t < TOP → All (λ x. x ≤ tree_place t) (reader_places t)
-tree_within (found w) s one begun below = walk_within w s begun below
-tree_within (all_of ts) s one begun below = absurd one
-tree_within (any_of ts) s one begun below = absurd one
-tree_within (without at r t) s one begun below = absurd one

@@ -7,7 +7,8 @@ use Rattle.alta_codec.specs.declared.location.TheConstants.{TOP}
 use Rattle.alta_codec.specs.Rising.{IsRising, IsPlace, first_from, pred_of, count_from}
 use Rattle.alta_codec.proofs.Places.{first_from-nil, first_from-le_top, first_from-above, first_from-place, pred_of-below}
 use Rattle.alta_compound.specs.Union.{union_of}
-use Rattle.alta_compound.specs.Unions.{union-first, pred_same}
+use Rattle.alta_compound.specs.Unions.{union-first}
+use Rattle.alta_compound.proofs.Staying.{pred_same}
 use Rattle.alta_docread.specs.Kept.{less}
 use Rattle.alta_lead.specs.Having.{HasWithin, ends_with_any}
 use Rattle.alta_lead.specs.HavingLaws.{element_within, having-answers}

@@ -6,7 +6,7 @@ use Rattle.std.proofs.lemmas.List.Elements.{All-nil}
 use Rattle.alta_codec.specs.declared.location.TheConstants.{TOP}
 use Rattle.alta_codec.specs.Rising.{IsRising, IsPlace, first_from, pred_of}
 use Rattle.alta_codec.proofs.Places.{first_from-above, first_from-least, first_from-place, pred_of-below, pred_of-mono}
-use Rattle.alta_compound.specs.Unions.{pred_same}
+use Rattle.alta_compound.proofs.Staying.{pred_same}
 use Rattle.alta_lead.specs.Followed.{ends_followed}
 use Rattle.alta_lead.proofs.FollowedLaws.{followed-answers}
 use Rattle.alta_lead.specs.Moves.{AreAhead, IsMoved, AreMoved}

@@ -7,7 +7,7 @@ use Rattle.std.proofs.lemmas.Bool.{cases_lt}
 use Rattle.alta_codec.specs.declared.location.TheConstants.{TOP}
 use Rattle.alta_codec.specs.Rising.{IsRising, IsPlace, first_from, pred_of}
 use Rattle.alta_codec.proofs.Places.{first_from-above, first_from-least, first_from-place, pred_of-place, pred_of-below, pred_of-greatest, pred_of-is}
-use Rattle.alta_compound.specs.OverReaders.{place-positive}
+use Rattle.alta_compound.proofs.InStep.{place-positive}
 use Rattle.alta_rank.specs.Counted.{AreBehind}
 
 -- the last below a place is the last below a lower one, where no element lies between

@@ -1,3 +1,4 @@
 pub mod Near
 pub mod Stands
 pub mod Walk
+pub mod Chained

@@ -1,9 +1,10 @@
 use Rattle.std.proofs.Common.{◌≡◌, map, get_or, ap, sym, ◌∙◌, arith}
 use Rattle.alta_codec.specs.Rising.{first_from, pred_of}
-use Rattle.alta_compound.specs.OverReaders.{union_of-rises, in_step_first, in_step_after}
-use Rattle.alta_compound.specs.Same.{union_of-permutation, gathered-permutation}
+use Rattle.alta_compound.specs.OverReaders.{union_of-rises}
+use Rattle.alta_compound.proofs.InStep.{in_step_first, in_step_after}
+use Rattle.alta_compound.proofs.Permuted.{union_of-permutation, gathered-permutation}
 use Rattle.alta_compound.specs.Union.{union_of, IsInStep}
-use Rattle.alta_compound.specs.Unions.{pred_same}
+use Rattle.alta_compound.proofs.Staying.{pred_same}
 use Rattle.alta_compound.proofs.Costs.{cost_before-le}
 use Rattle.alta_compound.proofs.Moving.{moved_map, moved_first}
 use Rattle.alta_compound.proofs.any.go.Given.{Over}

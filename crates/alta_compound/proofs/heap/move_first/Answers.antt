@@ -5,7 +5,7 @@ use Rattle.std.proofs.lemmas.List.Sorted.{All-permutation}
 use Rattle.alta_codec.specs.Rising.{first_from, pred_of}
 use Rattle.alta_codec.proofs.Places.{first_from-above}
 use Rattle.alta_compound.specs.Heap.{IsHeapFrom}
-use Rattle.alta_compound.specs.Unions.{pred_same}
+use Rattle.alta_compound.proofs.Staying.{pred_same}
 use Rattle.alta_compound.proofs.Costs.{cost_after}
 use Rattle.alta_compound.proofs.Heaps.{heap_but_first, left_after}
 use Rattle.alta_compound.proofs.heap.move_first.Goals as goal

@@ -1,7 +1,7 @@
 use Rattle.std.proofs.Common.{◌≡◌, ◌+◌, ◌<◌, min, true, false, map, length, set, refl, sym, subst, ap, ◌∙◌, arith}
 use Rattle.std.proofs.lemmas.List.{get_or-set_other, length-set}
 use Rattle.alta_codec.specs.Rising.{first_from}
-use Rattle.alta_compound.specs.OverReaders.{place-positive}
+use Rattle.alta_compound.proofs.InStep.{place-positive}
 use Rattle.alta_compound.specs.Union.{least_of}
 use Rattle.alta_docread.specs.Moves.{IsAsked, IsSkipped}
 use Rattle.alta_codec.specs.Lists.{greatest_of}

@@ -3,7 +3,7 @@ use Rattle.std.specs.Prelude.{Contains}
 use Rattle.alta_codec.specs.declared.location.TheConstants.{TOP}
 use Rattle.alta_codec.specs.Rising.{IsPlace, first_from, pred_of}
 use Rattle.alta_codec.proofs.Places.{first_from-above, first_from-least, first_from-le_top, first_from-place, pred_of-below}
-use Rattle.alta_compound.specs.Unions.{pred_same}
+use Rattle.alta_compound.proofs.Staying.{pred_same}
 use Rattle.alta_lead.specs.Moves.{AreAhead}
 use Rattle.alta_lead.proofs.Bringing.{ahead_first}
 use Rattle.alta_lead.proofs.Moving.{all_still, moved_then, moved_more}

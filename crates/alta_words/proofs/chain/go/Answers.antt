@@ -4,7 +4,8 @@ use Rattle.std.proofs.lemmas.Bool.{cases_lt}
 use Rattle.std.proofs.lemmas.List.{length-set, get_or_past, get_or-set_same, get_or-set_other}
 use Rattle.alta_codec.specs.declared.location.TheConstants.{TOP}
 use Rattle.alta_codec.specs.Rising.{first_from, pred_of}
-use Rattle.alta_words.specs.Chain.{IsChain, chain_place, chain_goes, chain_falls}
+use Rattle.alta_words.specs.Chain.{IsChain, chain_place, chain_goes}
+use Rattle.alta_words.proofs.Chained.{chain_falls}
 use Rattle.alta_words.specs.Leaf.{leaf_list, leaf_place}
 use Rattle.alta_words.proofs.chain.go.Given.{Over}
 use Rattle.alta_words.proofs.chain.go.Goals as goal

@@ -3,7 +3,8 @@ use Rattle.std.specs.List.{concat}
 use Rattle.std.proofs.lemmas.List.{length-map, length-set, get_or-set_same, get_or-set_other}
 use Rattle.alta_codec.specs.declared.location.TheConstants.{TOP}
 use Rattle.alta_codec.specs.Rising.{first_from, count_from}
-use Rattle.alta_words.specs.Chain.{IsChain, chain_place, chain_ends, chain_goes, chain_falls, stays}
+use Rattle.alta_words.specs.Chain.{IsChain, chain_place, chain_ends, chain_goes, stays}
+use Rattle.alta_words.proofs.Chained.{chain_falls}
 use Rattle.alta_words.specs.Leaf.{leaf_list, leaf_place}
 use Rattle.alta_words.proofs.chain.go_far.Given.{Over}
 use Rattle.alta_words.proofs.chain.go_far.Goals as goal

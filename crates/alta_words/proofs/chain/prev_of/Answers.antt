@@ -1,7 +1,8 @@
 use Rattle.std.proofs.Common.{◌-◌, map, ◌∙◌, arith}
 use Rattle.std.proofs.lemmas.List.{length-map}
 use Rattle.alta_words.specs.Leaf.{leaf_list, leaf_place}
-use Rattle.alta_words.specs.Chain.{prev_here, prev_none, prev_before}
+use Rattle.alta_words.specs.Chain.{prev_none, prev_before}
+use Rattle.alta_words.proofs.Chained.{prev_here}
 use Rattle.alta_words.proofs.chain.prev_of.Goals as goal
 
 pub returns-then-near-gt0 : goal.returns-then-near-gt0

@@ -6,8 +6,9 @@ use Rattle.std.proofs.lemmas.List.Sorted.{All-permutation, IsPermutation-map, le
 use Rattle.alta_codec.specs.Rising.{first_from}
 use Rattle.alta_compound.specs.Gathered.{gathered}
 use Rattle.alta_compound.specs.IsUnion.{IsUnion}
-use Rattle.alta_compound.specs.OverReaders.{union_of-rises, in_step_after, in_step_place, place-positive}
-use Rattle.alta_compound.specs.Same.{union_of-permutation, gathered-permutation}
+use Rattle.alta_compound.specs.OverReaders.{union_of-rises, in_step_place}
+use Rattle.alta_compound.proofs.InStep.{in_step_after, place-positive}
+use Rattle.alta_compound.proofs.Permuted.{union_of-permutation, gathered-permutation}
 use Rattle.alta_compound.specs.Union.{union_of, least_of, IsInStep}
 use Rattle.alta_compound.proofs.Moving.{none_before}
 use Rattle.alta_compound.proofs.any.AnyReader.new.Given.{Over}

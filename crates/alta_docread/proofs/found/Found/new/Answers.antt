@@ -1,7 +1,7 @@
 use Rattle.std.proofs.Common.{map, refl, sym, subst, arith}
 use Rattle.std.proofs.lemmas.List.{length-map}
 use Rattle.alta_docread.specs.Solutions.{IsHeld}
-use Rattle.alta_docread.specs.SolutionLaws.{found-is}
+use Rattle.alta_docread.proofs.Solved.{found-is}
 use Rattle.alta_docread.proofs.Unmoved.{places_first}
 use Rattle.alta_docread.proofs.found.Found.new.Goals as goal
 

@@ -1,5 +1,6 @@
 use Rattle.alta_docread.specs.FoundView.{walk_of}
-use Rattle.alta_docread.specs.SolutionLaws.{walk_place, walk_within}
+use Rattle.alta_docread.specs.SolutionLaws.{walk_place}
+use Rattle.alta_docread.proofs.Solved.{walk_within}
 use Rattle.alta_docread.proofs.found.FoundReader.loc.Goals as goal
 
 pub returns-clause-place : goal.returns-clause-place

@@ -2,7 +2,7 @@ use Rattle.std.proofs.Common.{◌≤◌, subst, sym, arith}
 use Rattle.std.specs.Prelude.{All, IsTrue}
 use Rattle.alta_docread.specs.DocView.{DocView}
 use Rattle.alta_docread.specs.Tree.{reader_places}
-use Rattle.alta_docread.specs.TreeLaws.{tree_within}
+use Rattle.alta_docread.proofs.Tops.{tree_within}
 use Rattle.alta_docread.specs.View.{tree_of}
 use Rattle.alta_docread.proofs.Views.{one_seen}
 use Rattle.alta_docread.proofs.reader.DocReaderReader.loc.Goals as goal

@@ -6,7 +6,8 @@ use Rattle.alta_codec.specs.declared.location.TheConstants.{TOP}
 use Rattle.alta_codec.specs.Rising.{first_from}
 use Rattle.alta_codec.proofs.Places.{first_from-least, count_from-all}
 use Rattle.alta_words.specs.Leaf.{leaf_list, leaf_place}
-use Rattle.alta_words.specs.Chain.{IsChain, chain_starts, both_at}
+use Rattle.alta_words.specs.Chain.{IsChain}
+use Rattle.alta_words.proofs.Chained.{chain_starts, both_at}
 use Rattle.alta_words.proofs.chain.ChainReader.new.Goals as goal
 use Rattle.alta_words.proofs.chain.ChainReader.new.Goals.{After-leaf_from-at}
 
