@@ -34,20 +34,13 @@ pub fn scan_block(bytes: &[u8], at: usize, before: u64) -> Result<BlockSpan, Str
     requires low { before < TOP }
     ensures { ReadsFrom bytes.now at before (λ span. IsBlockRead bytes.now at before span.first span.last span.count span.next) result }
 {
-    let first = match read_location(bytes, at, before) {
-        Ok((location, _next)) => location,
-        Err(fault) => return Err(fault),
-    };
+    let (first, _next) = read_location(bytes, at, before)?;
     let (mut next, mut last, mut count) = scan_runs(bytes, at, before);
     'numbers: while next < bytes.len() && count < 64 {
-        match read_location(bytes, next, last) {
-            Ok((location, after)) => {
-                last = location;
-                next = after;
-                count += 1;
-            }
-            Err(fault) => return Err(fault),
-        }
+        let (location, after) = read_location(bytes, next, last)?;
+        last = location;
+        next = after;
+        count += 1;
     }
     Ok(BlockSpan {
         first,
@@ -73,21 +66,14 @@ pub fn fill_block(
     ensures counted { IfOk result (λ span. length out.new.items ≡ span.count) }
 {
     out.clear();
-    let (first, second) = match read_location(bytes, at, before) {
-        Ok(step) => step,
-        Err(fault) => return Err(fault),
-    };
+    let (first, second) = read_location(bytes, at, before)?;
     out.push(first);
     let (mut next, mut last) = fill_runs(bytes, second, first, out);
     'numbers: while next < bytes.len() && out.len() < 64 {
-        match read_location(bytes, next, last) {
-            Ok((location, after)) => {
-                out.push(location);
-                last = location;
-                next = after;
-            }
-            Err(fault) => return Err(fault),
-        }
+        let (location, after) = read_location(bytes, next, last)?;
+        out.push(location);
+        last = location;
+        next = after;
     }
     Ok(BlockSpan {
         first,

@@ -189,10 +189,7 @@ pub(crate) fn make_draft(
     let newest = spell_segment(alloc, levels.newest)?;
     let list = spell_list(alloc, ends)?;
     let bytes = list.as_slice().len() as u64;
-    let places = match find_places(root, oldest.len() as u64, newest.len() as u64, bytes, limit) {
-        Ok(places) => places,
-        Err(fault) => return Err(fault),
-    };
+    let places = find_places(root, oldest.len() as u64, newest.len() as u64, bytes, limit)?;
     let oldest_level = open_level(alloc, &oldest, places.oldest)?;
     let newest_level = open_level(alloc, &newest, places.newest)?;
     let root = next_root(root, ends, stay_from, next, location, places);

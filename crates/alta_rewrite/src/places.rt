@@ -78,20 +78,12 @@ pub(crate) fn find_places(
 ) -> Result<Places, RewriteFault>
     ensures { Gives result (places_for limit root.now oldest newest list) }
 {
-    let oldest = match first_place(root, &[], oldest, limit) {
-        Ok(oldest) => oldest,
-        Err(fault) => return Err(fault),
-    };
-    let newest = match place_behind(root, oldest, newest, limit) {
-        Ok(newest) => newest,
-        Err(fault) => return Err(fault),
-    };
-    match list_place(root, oldest, newest, list, limit) {
-        Ok(list) => Ok(Places {
-            oldest,
-            newest,
-            list,
-        }),
-        Err(fault) => Err(fault),
-    }
+    let oldest = first_place(root, &[], oldest, limit)?;
+    let newest = place_behind(root, oldest, newest, limit)?;
+    let list = list_place(root, oldest, newest, list, limit)?;
+    Ok(Places {
+        oldest,
+        newest,
+        list,
+    })
 }

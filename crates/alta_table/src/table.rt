@@ -102,10 +102,8 @@ fn table_of(alloc: Global, bytes: &[u8], place: u64, total: u64) -> Result<OpenL
     requires whole { (h : Head) → read_head bytes.now place total ≡ Ok h → length bytes.now ≡ 32 + h.document_bytes + h.term_bytes }
     ensures { Answers (λ x. x) result (tables_of bytes.now place total) }
 {
-    match opened(alloc, bytes, place, total) {
-        Ok(parts) => Ok(OpenLevel { parts }),
-        Err(fault) => Err(fault),
-    }
+    let parts = opened(alloc, bytes, place, total)?;
+    Ok(OpenLevel { parts })
 }
 
 impl OpenLevel {

@@ -63,19 +63,15 @@ impl<'a> Walk<'a> {
         ensures left { IfOk result (λ _. self.new.left + self.new.stream + self.new.summary ≡ self.old.left) }
         ensures short { self.new.len ≤ LONGEST }
     {
-        match entry_at(&self.term[..self.len], self.left, self.rest) {
-            Ok((entry, behind)) => {
-                replace(&mut self.term, entry.shared, entry.rest);
-                self.len = entry.shared + entry.rest.len();
-                self.left = self.left - entry.stream - entry.summary;
-                self.count = entry.count;
-                self.stream = entry.stream;
-                self.summary = entry.summary;
-                self.rest = behind;
-                Ok(())
-            }
-            Err(fault) => Err(fault),
-        }
+        let (entry, behind) = entry_at(&self.term[..self.len], self.left, self.rest)?;
+        replace(&mut self.term, entry.shared, entry.rest);
+        self.len = entry.shared + entry.rest.len();
+        self.left = self.left - entry.stream - entry.summary;
+        self.count = entry.count;
+        self.stream = entry.stream;
+        self.summary = entry.summary;
+        self.rest = behind;
+        Ok(())
     }
 
     /// Passes a row that was read before.

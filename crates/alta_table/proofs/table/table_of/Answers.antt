@@ -4,4 +4,4 @@ use Rattle.alta_table.proofs.table.table_of.Goals as goal
 
 pub invariant_of-result : goal.invariant_of-result
 invariant_of-result c =
-    parts_are c.in-Ok.parts c.args.bytes.now c.args.place c.args.total (λ i. omega (arith, c.type_inv.bytes i)) c.requires.below c.requires.whole c.in-Ok.ensures.exact c.in-Ok.ensures.names c.in-Ok.ensures.held c.in-Ok.ensures.end
+    parts_are c.in_ok-parts.parts c.args.bytes.now c.args.place c.args.total (λ i. omega (arith, c.type_inv.bytes i)) c.requires.below c.requires.whole c.in_ok-parts.ensures.exact c.in_ok-parts.ensures.names c.in_ok-parts.ensures.held c.in_ok-parts.ensures.end
