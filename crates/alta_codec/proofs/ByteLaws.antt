@@ -1,7 +1,6 @@
 -- Laws of lists of bytes.
 use Rattle.std.proofs.Common.{◌≡◌, ⊎_elim, ℕ, zero, suc, ◌+◌, ◌-◌, ◌/◌, ◌%◌, ◌<◌, Bool, true, false, List, [], ◌∷◌, ◌++◌, length, get_or, take, drop, refl, sym, ap, subst, ◌∙◌, arith}
-use Rattle.std.specs.Prelude.{replicate, ◌==◌}
-use Rattle.std.specs.Int.{w64, to_be_bytes}
+use Rattle.std.specs.Prelude.{◌==◌}
 use Rattle.std.proofs.lemmas.Bool.{cases_lt}
 use Rattle.std.proofs.lemmas.List.{length-take, get_or-take, get_or-drop, get_or_past}
 use Rattle.std.proofs.lemmas.List.Elements.{All-nil, All-cons}
@@ -33,10 +32,6 @@ AreBytes-take n bytes h i =
 
 pub AreBytes-drop : (n : ℕ) (bytes : List ℕ) → AreBytes bytes → AreBytes (drop n bytes)
 AreBytes-drop n bytes h i = rw get_or-drop (h (n + i))
-
-pub AreBytes-replicate : (n b : ℕ) → b < 256 → AreBytes (replicate n b)
-AreBytes-replicate zero b small = AreBytes-nil
-AreBytes-replicate (suc n) b small = AreBytes-cons b (replicate n b) small (AreBytes-replicate n b small)
 
 -- bytes that are bytes where they stand are bytes
 pub AreBytes-within : (bytes : List ℕ) → ((i : ℕ) → i < length bytes → get_or bytes i 0 < 256) → AreBytes bytes
@@ -71,10 +66,6 @@ eight_bytes a b c d e f g h =
     let six = byte_and c (d % 256 ∷ e % 256 ∷ f % 256 ∷ g % 256 ∷ h % 256 ∷ []) five in
     let seven = byte_and b (c % 256 ∷ d % 256 ∷ e % 256 ∷ f % 256 ∷ g % 256 ∷ h % 256 ∷ []) six in
     byte_and a (b % 256 ∷ c % 256 ∷ d % 256 ∷ e % 256 ∷ f % 256 ∷ g % 256 ∷ h % 256 ∷ []) seven
-
--- a number in eight bytes, the highest first
-pub wide-AreBytes : (n : ℕ) → AreBytes (to_be_bytes w64 n)
-wide-AreBytes n = eight_bytes (n / 72057594037927936) (n / 281474976710656) (n / 1099511627776) (n / 4294967296) (n / 16777216) (n / 65536) (n / 256) n
 
 -- ---- bytes that are lacking
 

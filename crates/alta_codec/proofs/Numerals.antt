@@ -14,10 +14,6 @@ abbrev pub raised : ℕ → ℕ → Result (ℕ × ℕ) CodeFault → Result (�
 raised v s (Ok r) = Ok (v + s * r.0, r.1)
 raised v s (Err f) = Err f
 
-pub raised_start : (r : Result (ℕ × ℕ) CodeFault) → r ≡ raised 0 1 r
-raised_start (Ok (n, e)) = ap (λ (m : ℕ). Ok (m, e)) (omega arith)
-raised_start (Err f) = refl
-
 pub raised_low : (v s low : ℕ) (r : Result (ℕ × ℕ) CodeFault) → raised v s (with_low low r) ≡ raised (v + s * low) (s * 128) r
 raised_low v s low (Ok (n, e)) = ap (λ (m : ℕ). Ok (m, e)) (omega arith)
 raised_low v s low (Err f) = refl

@@ -1,5 +1,5 @@
 -- The loops over the members of a conjunction and of an or.
-use Rattle.std.proofs.Common.{◌≡◌, ℕ, ◌+◌, ◌<◌, ◌≤◌, Bool, true, false, ◌&&◌, ◌||◌, cond, List, [], ◌++◌, length, drop, get_or, map, refl, sym, subst, ap, ◌∙◌, append_assoc}
+use Rattle.std.proofs.Common.{◌≡◌, ℕ, ◌+◌, ◌<◌, ◌≤◌, Bool, true, false, ◌&&◌, ◌||◌, cond, List, ◌++◌, length, drop, get_or, map, sym, subst, ap, ◌∙◌, append_assoc}
 use Rattle.std.specs.Prelude.{Option, Some, None, is_some}
 use Rattle.std.proofs.lemmas.List.{append-nil}
 use Rattle.alta_machine.specs.Shape.{Shape, Shapes, more, none, shapes_of}
@@ -15,9 +15,6 @@ pub record IsConjoining (ws ns : List Test) (rest whole : Shapes) : Type 0 where
   pub words : ws ++ words_in rest ≡ words_in whole
   pub negated : ns ++ words_against rest ≡ words_against whole
   pub each : are_words rest ≡ are_words whole
-
-pub conjoining_starts : (whole : Shapes) → IsConjoining [] [] whole whole
-conjoining_starts whole = record { words = refl; negated = refl; each = refl }
 
 next_list : (xs ys zs rest whole : List Test) → xs ++ (ys ++ rest) ≡ whole → zs ≡ xs ++ ys → zs ++ rest ≡ whole
 next_list xs ys zs rest whole e f = ap (λ l. l ++ rest) f ∙ append_assoc xs ys rest ∙ e

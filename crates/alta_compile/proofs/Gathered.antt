@@ -14,7 +14,7 @@ use Rattle.alta_codec.specs.Inequality.{Inequality}
 use Rattle.alta_solver.specs.Bounds.{IsNamed}
 use Rattle.alta_compile.specs.Drafted.{placed, IsAdded, IsDraftOf, is_atom, AddsMember}
 use Rattle.alta_machine.specs.Joined.{shifted, joint_pattern}
-use Rattle.alta_machine.specs.PlanOf.{held, between, found_of, atom_plan, with_pattern, with_value, atoms_in, all_plan, plan_of, plans_of, others_of}
+use Rattle.alta_machine.specs.PlanOf.{between, found_of, atom_plan, with_pattern, with_value, atoms_in, all_plan, plan_of, plans_of, others_of}
 use Rattle.alta_machine.specs.Plans.{FoundTree, Tree, found, all_of, Trees, no_more, also, trees_of}
 use Rattle.alta_compile.specs.View.{tree}
 use Rattle.alta_compile.specs.declared.draft.Draft.{Draft}
@@ -128,13 +128,6 @@ pub draft_named : (d : Draft) (p : Pattern) → IsDraftOf d p → AreNamed (leng
 draft_named d p h n =
     subst (λ bs. IsNamed (suc (length d.tests.items)) bs) (sym h.bounds)
     (subst (λ (ts : List Test). IsNamed (suc (length ts)) (map between p.bounds)) (sym h.tests) (named_between (length p.tests) p.bounds n))
-
-pub draft_found : (d : Draft) (p : Pattern) (f : FoundTree) → IsDraftOf d p
-    → f ≡ record { tests = d.tests.items; bounds = held (length d.tests.items) ++ d.bounds.items } → f ≡ found_of p
-draft_found d p f h e =
-    e
-    ∙ ap (λ (bs : List Inequality). record { tests = d.tests.items; bounds = held (length d.tests.items) ++ bs }) h.bounds
-    ∙ ap (λ (ts : List Test). record { tests = ts; bounds = held (length ts) ++ map between p.bounds }) h.tests
 
 -- trees before others
 abbrev pub trees_then : List Tree → Trees → Trees

@@ -27,13 +27,6 @@ pub record IsSwap (xs ys : List ℕ) (a b : ℕ) : Type 0 where
   pub second : get_or ys b 0 ≡ get_or xs a 0
   pub others : (k : ℕ) → k ≢ a → k ≢ b → get_or ys k 0 ≡ get_or xs k 0
 
-pub but_start : (low : ℕ) (xs : List ℕ) → IsHeapFrom (low + 1) xs → IsHeapBut low low xs
-but_start low xs h =
-    record {
-      edges = λ p c l n a b w. h p c (omega arith) (a, b) w;
-      through = λ p c l a b d e w. absurd (omega arith);
-    }
-
 pub but_step : (low at child : ℕ) (xs ys : List ℕ) → IsHeapBut low at xs → low ≤ at → 2 * at < child → child ≤ 2 * at + 2 → child < length xs
     → get_or xs child 0 ≤ get_or xs at 0 → ((c : ℕ) → 2 * at < c → c ≤ 2 * at + 2 → c < length xs → get_or xs child 0 ≤ get_or xs c 0)
     → IsSwap xs ys at child → IsHeapBut low child ys
@@ -55,12 +48,6 @@ but_step low at child xs ys h from below near within above least s =
           let same : p ≡ at = omega arith in
           omega (arith, first, ap (λ i. get_or ys i 0) same, s.others c (λ q. omega arith) (λ q. omega arith), h.edges child c (omega arith) (λ q. omega arith) d e (omega (arith, s.sized)));
     }
-
-pub but_end : (low at : ℕ) (xs : List ℕ) → IsHeapBut low at xs
-    → ((c : ℕ) → 2 * at < c → c ≤ 2 * at + 2 → c < length xs → get_or xs at 0 ≤ get_or xs c 0) → IsHeapFrom low xs
-but_end low at xs h last = λ p c l t w.
-    ⊎_elim (λ e. omega (arith, ap (λ i. get_or xs i 0) e, last c (omega (arith, t.0)) (omega (arith, t.1)) w))
-    (λ e. h.edges p c l e t.0 t.1 w) (same_or_not p at)
 
 -- the root is at most each place
 heap_root : (n i : ℕ) (xs : List ℕ) → i ≤ n → i < length xs → IsHeapFrom 0 xs → get_or xs 0 0 ≤ get_or xs i 0

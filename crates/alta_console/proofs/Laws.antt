@@ -17,25 +17,6 @@ taken_in_append (Given piece ∷ xs) ys = taken_in_append xs ys
 taken_in_append (Ended ∷ xs) ys = taken_in_append xs ys
 taken_in_append (Taken piece ∷ xs) ys = ap (λ (l : List ℕ). piece ++ l) (taken_in_append xs ys) ∙ sym (append_assoc piece (taken_in xs) (taken_in ys))
 
--- what one more event adds to what was given, and to what was taken
-pub given_in_given : (run : List Event) (piece : List ℕ) → given_in (run ++ Given piece ∷ []) ≡ given_in run ++ piece
-given_in_given run piece = given_in_append run (Given piece ∷ []) ∙ ap (λ (l : List ℕ). given_in run ++ l) (append-nil piece)
-
-pub given_in_taken : (run : List Event) (piece : List ℕ) → given_in (run ++ Taken piece ∷ []) ≡ given_in run
-given_in_taken run piece = given_in_append run (Taken piece ∷ []) ∙ append-nil (given_in run)
-
-pub given_in_ended : (run : List Event) → given_in (run ++ Ended ∷ []) ≡ given_in run
-given_in_ended run = given_in_append run (Ended ∷ []) ∙ append-nil (given_in run)
-
-pub taken_in_taken : (run : List Event) (piece : List ℕ) → taken_in (run ++ Taken piece ∷ []) ≡ taken_in run ++ piece
-taken_in_taken run piece = taken_in_append run (Taken piece ∷ []) ∙ ap (λ (l : List ℕ). taken_in run ++ l) (append-nil piece)
-
-pub taken_in_given : (run : List Event) (piece : List ℕ) → taken_in (run ++ Given piece ∷ []) ≡ taken_in run
-taken_in_given run piece = taken_in_append run (Given piece ∷ []) ∙ append-nil (taken_in run)
-
-pub taken_in_ended : (run : List Event) → taken_in (run ++ Ended ∷ []) ≡ taken_in run
-taken_in_ended run = taken_in_append run (Ended ∷ []) ∙ append-nil (taken_in run)
-
 -- a transcript goes on by no event, and by two runs
 pub grows_none : (told : Option (List Event)) → Grows told told []
 grows_none None = refl

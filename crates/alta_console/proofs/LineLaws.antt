@@ -4,7 +4,7 @@ use Rattle.std.specs.List.{All}
 use Rattle.std.proofs.lemmas.Grind.{common_steps}
 use Rattle.std.proofs.lemmas.List.Elements.{All-nil, All-cons, All-head, All-tail, All-append}
 use Rattle.alta_codec.specs.Bytes.{Lacks}
-use Rattle.alta_console.specs.Lines.{whole_from, begun_from, whole, begun, last_piece, lines_of, spelled, IsCut}
+use Rattle.alta_console.specs.Lines.{whole_from, begun_from, whole, begun, last_piece, spelled, IsCut}
 
 pub whole_from_append : (p xs ys : List ℕ) → whole_from p (xs ++ ys) ≡ whole_from p xs ++ whole_from (begun_from p xs) ys
 whole_from_append p [] ys = refl
@@ -18,13 +18,6 @@ begun_from_append p (x ∷ xs) ys =
     elim (x == 10) as (λ b. (if b then begun_from [] (xs ++ ys) else begun_from (p ++ x ∷ []) (xs ++ ys)) ≡ begun_from (if b then begun_from [] xs else begun_from (p ++ x ∷ []) xs) ys)
     [ true ↦ begun_from_append [] xs ys | false ↦ begun_from_append (p ++ x ∷ []) xs ys ]
 
--- behind a newline, lines are cut as if nothing stood before
-pub lines_of_append : (xs ys : List ℕ) → begun xs ≡ [] → lines_of (xs ++ ys) ≡ whole xs ++ lines_of ys
-lines_of_append xs ys none =
-    let lines : whole (xs ++ ys) ≡ whole xs ++ whole ys = whole_from_append [] xs ys ∙ ap (λ (l : List ℕ). whole xs ++ whole_from l ys) none in
-    let last : begun (xs ++ ys) ≡ begun ys = begun_from_append [] xs ys ∙ ap (λ (l : List ℕ). begun_from l ys) none in
-    ap (λ (l : List (List ℕ)). l ++ last_piece (begun (xs ++ ys))) lines ∙ ap (λ (l : List ℕ). (whole xs ++ whole ys) ++ last_piece l) last ∙ append_assoc (whole xs) (whole ys) (last_piece (begun ys))
-
 test_true : (x : ℕ) → (x == 10) ≡ true → x ≡ 10
 test_true x t = grind (arith, common_steps)
 
@@ -33,24 +26,6 @@ test_false x t = grind (arith, common_steps)
 
 not_newline : (x : ℕ) → x ≢ 10 → (x == 10) ≡ false
 not_newline x n = grind (arith, common_steps)
-
--- one more byte: a newline ends the line that has begun
-pub whole_from_newline : (p bytes : List ℕ) → whole_from p (bytes ++ 10 ∷ []) ≡ whole_from p bytes ++ begun_from p bytes ∷ []
-whole_from_newline p bytes = whole_from_append p bytes (10 ∷ [])
-
-pub begun_from_newline : (p bytes : List ℕ) → begun_from p (bytes ++ 10 ∷ []) ≡ []
-begun_from_newline p bytes = begun_from_append p bytes (10 ∷ [])
-
--- and every other byte goes on with it
-pub whole_from_other : (p bytes : List ℕ) (byte : ℕ) → byte ≢ 10 → whole_from p (bytes ++ byte ∷ []) ≡ whole_from p bytes
-whole_from_other p bytes byte other =
-    let q : List ℕ = begun_from p bytes in
-    whole_from_append p bytes (byte ∷ []) ∙ ap (λ (b : Bool). whole_from p bytes ++ (if b then q ∷ [] else [])) (not_newline byte other) ∙ append-nil (whole_from p bytes)
-
-pub begun_from_other : (p bytes : List ℕ) (byte : ℕ) → byte ≢ 10 → begun_from p (bytes ++ byte ∷ []) ≡ begun_from p bytes ++ byte ∷ []
-begun_from_other p bytes byte other =
-    let q : List ℕ = begun_from p bytes in
-    begun_from_append p bytes (byte ∷ []) ∙ ap (λ (b : Bool). if b then [] else q ++ byte ∷ []) (not_newline byte other)
 
 -- Of a line that has begun, its first n bytes decide the first n bytes of each line.
 pub take_take : (n : ℕ) (p x : List ℕ) → take n (take n p ++ x) ≡ take n (p ++ x)

@@ -1,7 +1,7 @@
 -- Laws of texts that went out whole.
-use Rattle.std.proofs.Common.{◌≡◌, ℕ, ◌+◌, ◌<◌, ◌≤◌, ◌⊎◌, inl, inr, zero, suc, Bool, true, false, ◌==◌, List, [], ◌∷◌, ◌++◌, length, take, drop, refl, ap, sym, subst, ◌∙◌, append_assoc, append-nil, length-append, arith}
+use Rattle.std.proofs.Common.{◌≡◌, ℕ, ◌+◌, ◌<◌, ◌≤◌, ◌⊎◌, inl, inr, zero, suc, Bool, true, false, ◌==◌, List, [], ◌∷◌, ◌++◌, length, take, drop, refl, ap, sym, ◌∙◌, append_assoc, append-nil, length-append, arith}
 use Rattle.std.proofs.lemmas.Grind.{common_steps}
-use Rattle.std.proofs.lemmas.List.{take-append-drop, take-append-le, take_all, append_cancel_left}
+use Rattle.std.proofs.lemmas.List.{take-append-drop, append_cancel_left}
 use Rattle.std.proofs.lemmas.Bool.{cases_lt}
 use Rattle.std.specs.List.{concat}
 use Rattle.alta_console.specs.Replies.{IsPrefix, IsAcked, IsPartOfFirst}
@@ -10,21 +10,8 @@ pub joined_append : (xs ys : List (List ℕ)) → concat (xs ++ ys) ≡ concat x
 joined_append [] ys = refl
 joined_append (x ∷ xs) ys = ap (λ (l : List ℕ). x ++ l) (joined_append xs ys) ∙ sym (append_assoc x (concat xs) (concat ys))
 
--- one more text
-pub joined_text : (texts : List (List ℕ)) (text : List ℕ) → concat (texts ++ text ∷ []) ≡ concat texts ++ text
-joined_text texts text = joined_append texts (text ∷ []) ∙ ap (λ (l : List ℕ). concat texts ++ l) (append-nil text)
-
 pub joined_parts : (k : ℕ) (texts : List (List ℕ)) → concat texts ≡ concat (take k texts) ++ concat (drop k texts)
 joined_parts k texts = ap concat (sym (take-append-drop k texts)) ∙ joined_append (take k texts) (drop k texts)
-
-pub prefix_same : (xs : List ℕ) → IsPrefix xs xs
-prefix_same xs = ([], sym (append-nil xs))
-
-pub prefix_on : (xs ys more : List ℕ) → IsPrefix xs ys → IsPrefix xs (ys ++ more)
-prefix_on xs ys more p = (p.0 ++ more, ap (λ (l : List ℕ). l ++ more) p.1 ∙ append_assoc xs p.0 more)
-
-pub prefix_of : (xs ys zs : List ℕ) → IsPrefix xs ys → IsPrefix ys zs → IsPrefix xs zs
-prefix_of xs ys zs p q = (p.0 ++ q.0, q.1 ∙ ap (λ (l : List ℕ). l ++ q.0) p.1 ∙ append_assoc xs p.0 q.0)
 
 pub part_begins : (texts : List (List ℕ)) (part : List ℕ) → IsPartOfFirst texts part → IsPrefix part (concat texts)
 part_begins [] part none = ([], sym (append-nil part ∙ none))
@@ -45,49 +32,9 @@ acked_part k texts given part within is first = record {
   greatest = λ j h begins. elim (cases_lt k j) [ inl l ↦ absurd (omega (arith, longer texts k j part l h first, ap length begins.1, ap length is, length-append (concat (take j texts)) begins.0, length-append (concat (take k texts)) part)) | inr l ↦ l ];
 }
 
--- where all texts were given, all went out whole
-pub acked_all : (texts : List (List ℕ)) → IsAcked (length texts) texts (concat texts)
-acked_all texts = record {
-  within = omega arith;
-  begins = ([], ap concat (sym (take_all (length texts) texts (omega arith))) ∙ sym (append-nil (concat (take (length texts) texts))));
-  greatest = λ j h begins. h;
-}
-
--- one more text, given whole
-pub acked_text : (texts : List (List ℕ)) (text : List ℕ) → IsAcked (length texts + 1) (texts ++ text ∷ []) (concat texts ++ text)
-acked_text texts text =
-    let P : ℕ → Type 0 = λ n. IsAcked n (texts ++ text ∷ []) (concat texts ++ text) in
-    let Q : List ℕ → Type 0 = λ given. IsAcked (length (texts ++ text ∷ [])) (texts ++ text ∷ []) given in
-    subst P (length-append texts (text ∷ [])) (subst Q (joined_text texts text) (acked_all (texts ++ text ∷ [])))
-
 -- there is one such number
 pub acked_same : (k j : ℕ) (texts : List (List ℕ)) (given : List ℕ) → IsAcked k texts given → IsAcked j texts given → k ≡ j
 acked_same k j texts given p q = omega (arith, p.greatest j q.within q.begins, q.greatest k p.within p.begins)
-
--- it does not fall as more is given
-pub acked_later : (k j : ℕ) (texts : List (List ℕ)) (given more : List ℕ) → IsAcked k texts given → IsAcked j texts (given ++ more) → k ≤ j
-acked_later k j texts given more p q = q.greatest k p.within (prefix_on (concat (take k texts)) given more p.begins)
-
--- more texts begin with all of fewer
-take_past : (j : ℕ) (texts more : List (List ℕ)) → length texts ≤ j → IsPrefix (concat texts) (concat (take j (texts ++ more)))
-take_past j [] more past = (concat (take j more), refl)
-take_past zero (text ∷ texts) more past = absurd (omega arith)
-take_past (suc j) (text ∷ texts) more past =
-    let rest : IsPrefix (concat texts) (concat (take j (texts ++ more))) = take_past j texts more (omega arith) in
-    (rest.0, ap (λ (l : List ℕ). text ++ l) rest.1 ∙ sym (append_assoc text (concat texts) rest.0))
-
--- where a text did not go out whole, more texts behind it change nothing
-pub acked_on : (k : ℕ) (texts more : List (List ℕ)) (given : List ℕ) → k < length texts → IsAcked k texts given → IsAcked k (texts ++ more) given
-acked_on k texts more given l p =
-    let P : List (List ℕ) → Type 0 = λ first. IsPrefix (concat first) given in
-    record {
-      within = omega (arith, length-append texts more);
-      begins = subst P (sym (take-append-le k texts more p.within)) p.begins;
-      greatest = λ j h begins. elim (cases_lt (length texts) j) [
-        | inl past ↦ absurd (omega (arith, p.greatest (length texts) (omega arith) (subst P (sym (take_all (length texts) texts (omega arith))) (prefix_of (concat texts) (concat (take j (texts ++ more))) given (take_past j texts more (omega arith)) begins))))
-        | inr within ↦ p.greatest j within (subst P (take-append-le j texts more within) begins)
-      ];
-    }
 
 decide_byte : (x y : ℕ) (xs ys : List ℕ) (b : Bool) → (x == y) ≡ b → IsPrefix xs ys ⊎ (IsPrefix xs ys → ⊥) → IsPrefix (x ∷ xs) (y ∷ ys) ⊎ (IsPrefix (x ∷ xs) (y ∷ ys) → ⊥)
 decide_byte x y xs ys true t (inl p) =

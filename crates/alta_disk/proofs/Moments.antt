@@ -1,7 +1,5 @@
 -- How a run of calls on a disk goes on.
-use Rattle.std.proofs.Common.{◌≡◌, ◌⊎◌, inl, inr, ⊎_elim, ℕ, ◌≤◌, List, sym, ◌∙◌, subst, arith}
-use Rattle.std.specs.Prelude.{◌↔◌}
-use Rattle.alta_disk.specs.Images.{Exactly}
+use Rattle.std.proofs.Common.{◌≡◌, inl, inr, ⊎_elim, ℕ, List, sym, ◌∙◌, subst, arith}
 use Rattle.alta_disk.specs.Disk.{DiskState, Same, After, Each, Only, Passes, Stands, LeavesOnly, IsLawful}
 
 -- before the first call
@@ -81,9 +79,6 @@ leaves_by tells a b P step lawful run here leads = record {
 pub stands_only : (tells : Type 0) (s : DiskState) (P : List ℕ → Type 0) → IsLawful tells s → Only s.content s.images → (tells → P s.content) → Stands tells s P
 stands_only tells s P lawful only content = record { images = λ c here. subst P (sym (only c here)) (content (lawful.told c here)); content = content }
 
-pub stands_as : (tells : Type 0) (s : DiskState) (P Q : List ℕ → Type 0) → Stands tells s P → ((c : List ℕ) → P c → Q c) → Stands tells s Q
-stands_as tells s P Q stands weaker = record { images = λ c here. weaker c (stands.images c here); content = λ told. weaker s.content (stands.content told) }
-
 -- A synced disk, from which calls go on one after the other, each from the content that the one before left.
 module _ (tells : Type 0) (a : DiskState) (lawful_a : IsLawful tells a) (only_a : Only a.content a.images) where
   -- the first call, told by what it does to the content
@@ -119,13 +114,6 @@ leaves_as a b P Q one weaker = record {
 pub leaves_now : (tells : Type 0) (a b : DiskState) (P : List ℕ → Type 0) → IsLawful tells b → LeavesOnly P a b → Each b.images P
 leaves_now tells a b P lawful run = λ c here. run.each c (lawful.counts_now a.clock c run.later here)
 
--- and the content with them, where it is told
-pub leaves_stands : (tells : Type 0) (a b : DiskState) (P : List ℕ → Type 0) → IsLawful tells b → LeavesOnly P a b → Stands tells b P
-leaves_stands tells a b P lawful run = record {
-  images = leaves_now tells a b P lawful run;
-  content = λ told. leaves_now tells a b P lawful run b.content (lawful.present told);
-}
-
 -- after a call each image has what its step makes of P
 pub stands_then : (tells : Type 0) (a b : DiskState) (P Q : List ℕ → Type 0) (step : List ℕ → List ℕ → Type 0) → IsLawful tells b → Passes step a b → Stands tells a P
     → ((x z : List ℕ) → P x → step x z → Q z) → Stands tells b Q
@@ -133,15 +121,3 @@ stands_then tells a b P Q step lawful run here leads = record { images = images;
   where
     images : Each b.images Q
     images z left = let (x, before, moved) = run.now z left in leads x z (here.images x before) moved
-
--- a call on a disk whose images have P, which leaves of each what has Q
-pub leaves_step : (tells : Type 0) (a b : DiskState) (P Q : List ℕ → Type 0) (step : List ℕ → List ℕ → Type 0) → IsLawful tells a → Passes step a b → Stands tells a P
-    → ((x : List ℕ) → P x → Q x) → ((x z : List ℕ) → P x → step x z → Q z) → LeavesOnly Q a b
-leaves_step tells a b P Q step lawful run here stays leads =
-    leaves_by tells a b Q step lawful run (λ c left. stays c (here.images c left)) (λ x z left moved. leads x z (here.images x left) moved)
-
--- where a call leaves exactly what its step makes of each image, the images since each earlier moment are those, and those of then
-pub since_exactly : (tells : Type 0) (a b : DiskState) (step : List ℕ → List ℕ → Type 0) → IsLawful tells b → Passes step a b → Exactly (After a.images step) b.images
-    → (t : ℕ) (c : List ℕ) → t ≤ a.clock → (b.since t c ↔ (a.since t c ⊎ After a.images step c))
-since_exactly tells a b step lawful run exactly t c le =
-    (run.between t c le, ⊎_elim (run.keeps t c le) (λ made. lawful.counts_now t c (omega (arith, run.later)) ((exactly c).1 made)))

@@ -22,9 +22,6 @@ part_written at bytes old new inside holds =
     ap (λ (l : List ℕ). part at (length bytes) l) (holds ∙ append_assoc (take at old) bytes R)
     ∙ ap (λ (l : List ℕ). take (length bytes) l) (drop_at (take at old) (bytes ++ R) at (length-take-le at old inside)) ∙ take_at bytes R (length bytes) refl
 
-pub touches_same : (ranges : List (ℕ × ℕ)) (old new : List ℕ) → new ≡ old → Touches ranges old new
-touches_same ranges old new same = record { parts = λ a m clear. ap (λ (l : List ℕ). part a m l) same; no_shorter = omega (arith, ap length same) }
-
 pub touches_torn : (at n : ℕ) (ranges : List (ℕ × ℕ)) (old new : List ℕ) → Torn at n old new → ((a m : ℕ) → Clear a m ranges → Apart a m at n) → Touches ranges old new
 touches_torn at n ranges old new torn inside = record { parts = λ a m clear. part_torn at n a m old new torn (inside a m clear); no_shorter = torn.no_shorter }
 
@@ -45,11 +42,6 @@ touches_written at bytes old new inside holds = touches_write at (length bytes) 
 -- what touches one list of ranges touches each that leaves no more parts clear
 pub touches_as : (few many : List (ℕ × ℕ)) (old new : List ℕ) → Touches few old new → ((a m : ℕ) → Clear a m many → Clear a m few) → Touches many old new
 touches_as few many old new touches clearer = record { parts = λ a m clear. touches.parts a m (clearer a m clear); no_shorter = touches.no_shorter }
-
--- an image before a part, the part, and the rest
-pub part_of_split : (start n : ℕ) (before middle rest image : List ℕ) → image ≡ before ++ middle ++ rest → length before ≡ start → length middle ≡ n → part start n image ≡ middle
-part_of_split start n before middle rest image is starts size =
-    ap (λ (l : List ℕ). part start n l) (is ∙ append_assoc before middle rest) ∙ ap (λ (l : List ℕ). take n l) (drop_at before (middle ++ rest) start starts) ∙ take_at middle rest n size
 
 pub split_at_part : (start n : ℕ) (image : List ℕ) → image ≡ take start image ++ part start n image ++ drop (start + n) image
 split_at_part start n image =

@@ -56,16 +56,6 @@ passes_pushed first first' es items e move faults taken limit faults' taken' lim
         between t c k le within here (inr last) =
             inr (now c (subst (λ (l : List Event). MayLeave (after (start first) l) c) (take_all k (es ++ e ∷ []) (omega (arith, length-append es (e ∷ [])))) here))
 
--- a call that adds none
-pub passes_idle : (first first' : List ℕ) (es items : List Event) (move : List ℕ → List ℕ → Type 0) (faults taken limit faults' taken' limit' : ℕ) → first' ≡ first → items ≡ es → ((c : List ℕ) → move c c)
-    → Passes move (state_of first es faults taken limit) (state_of first' items faults' taken' limit')
-passes_idle first first' es items move faults taken limit faults' taken' limit' same is stays =
-    subst (λ (f : List ℕ). Passes move (state_of first es faults taken limit) (state_of f items faults' taken' limit')) (sym same)
-    (subst (λ (l : List Event). Passes move (state_of first es faults taken limit) (state_of first l faults' taken' limit')) (sym is) idle)
-  where
-    idle : Passes move (state_of first es faults taken limit) (state_of first es faults' taken' limit')
-    idle = record { later = omega arith; now = λ c here. (c, here, stays c); between = λ t c le left. inl left; keeps = λ t c le left. left }
-
 pub inside_test : (at : ℕ) (content : List ℕ) (m : Media) → content ≡ m.content → at ≤ length content → nat_le at (length m.content) ≡ true
 inside_test at content m is le = let n : length content ≡ length m.content = ap length is in grind (arith, nat_tests)
 
@@ -133,13 +123,6 @@ module _ (first content : List ℕ) (es : List Event) (synced : ℕ) (kept : IsK
         firm = ap (λ (m : Media). m.firm) pushed ∙ sym (ap (λ (m : Media). m.content) pushed) ∙ ap (λ (l : List Event). (after (start first) l).content) (sym (take_all n items (omega (arith, all))));
         pending = ap (λ (m : Media). m.pending) pushed ∙ ap (λ (l : List Event). ranges_after [] l) (sym (drop_all n items (omega (arith, all))));
       }
-
--- a call that adds an event if there is room
-pub passes_maybe : (first first' : List ℕ) (es items : List Event) (e : Event) (room : Bool) (move : List ℕ → List ℕ → Type 0) (faults taken limit faults' taken' limit' : ℕ) → first' ≡ first → items ≡ (if room then es ++ e ∷ [] else es)
-    → ((c : List ℕ) → move c c) → ((c : List ℕ) → MayLeave (step (after (start first) es) e) c → After (MayLeave (after (start first) es)) move c)
-    → Passes move (state_of first es faults taken limit) (state_of first' items faults' taken' limit')
-passes_maybe first first' es items e true move faults taken limit faults' taken' limit' same is stays moves = passes_pushed first first' es items e move faults taken limit faults' taken' limit' same is moves
-passes_maybe first first' es items e false move faults taken limit faults' taken' limit' same is stays moves = passes_idle first first' es items move faults taken limit faults' taken' limit' same is stays
 
 -- a sync that is done
 pub synced_only : (first first' : List ℕ) (es items : List Event) → first' ≡ first → items ≡ es ++ Synced ∷ [] → (c : List ℕ) → MayLeave (after (start first') items) c → c ≡ (after (start first) es).content

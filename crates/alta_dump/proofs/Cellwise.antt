@@ -1,5 +1,5 @@
 -- The cells that a line makes, compared with those that were seen, one after the other.
-use Rattle.std.proofs.Common.{◌≡◌, ℕ, zero, suc, ◌+◌, ◌<◌, ◌≤◌, List, [], ◌∷◌, length, get_or, map, drop, Bool, true, false, refl, sym, ap, ◌∙◌, arith}
+use Rattle.std.proofs.Common.{◌≡◌, ℕ, zero, suc, ◌+◌, ◌<◌, List, [], ◌∷◌, length, get_or, map, drop, Bool, true, false, refl, sym, ap, ◌∙◌, arith}
 use Rattle.std.specs.Prelude.{◌&&◌, nat_eq}
 use Rattle.std.proofs.lemmas.Bool.{and_parts, and_left, false_from_ne_true, false≢true}
 use Rattle.alta_gather.specs.declared.held.Held.{Held}
@@ -46,15 +46,6 @@ alike_none xs ys i d all lt lt' here so_far =
 
 past : (xs ys : List (List (List ℕ))) → xs ≡ [] → ys ≡ [] → are_alike xs ys ≡ true
 past xs ys a b = ap (λ (l : List (List (List ℕ))). are_alike l ys) a ∙ ap (are_alike []) b
-
-none_left : {X : Type 0} (xs : List X) (i : ℕ) → length xs ≤ i → drop i xs ≡ []
-none_left [] zero le = refl
-none_left [] (suc i) le = refl
-none_left (x ∷ xs) zero le = absurd (omega (arith, le))
-none_left (x ∷ xs) (suc i) le = none_left xs i (omega (arith, le))
-
-pub alike_all : (xs ys : List (List (List ℕ))) (i : ℕ) (all : Bool) → length xs ≤ i → length ys ≤ i → all ≡ are_alike (drop i xs) (drop i ys) → true ≡ all
-alike_all xs ys i all a b so_far = sym (so_far ∙ past (drop i xs) (drop i ys) (none_left xs i a) (none_left ys i b))
 
 pub folded_at : (terms : List (List ℕ)) (words : List Held) (cells : List (List (List ℕ))) (i : ℕ) (d : Held) → i < length words → AreFolded terms words cells
     → AreFoldings terms (get_or words i d) (of_kind WORD (get_or cells i []))

@@ -146,16 +146,6 @@ pub three_walks : (cuts : List (List (List (List ℕ)))) → count_lists (get_or
     + (count_lists (get_or cuts 2 []) + count_locations (get_or cuts 2 [])) ≤ lists cuts + locations cuts
 three_walks cuts = let l = three count_lists cuts refl in let p = three count_locations cuts refl in omega (arith, l, p)
 
--- the first term's lists are among those of all
-pub first_walk : (terms : List TermLists) (first : TermLists) (others : List TermLists) → terms ≡ first ∷ others
-    → length (term_lists first) + length (concat (term_lists first)) ≤ count_lists (map term_lists terms) + count_locations (map term_lists terms)
-first_walk terms first others is =
-    let l = sum_by-cons (λ (levels : List (List ℕ)). length levels) (term_lists first) (map term_lists others) in
-    let p = sum_by-cons (λ (levels : List (List ℕ)). length (concat levels)) (term_lists first) (map term_lists others) in
-    let ls : count_lists (map term_lists terms) ≡ count_lists (map term_lists (first ∷ others)) = ap (λ (ts : List TermLists). count_lists (map term_lists ts)) is in
-    let ps : count_locations (map term_lists terms) ≡ count_locations (map term_lists (first ∷ others)) = ap (λ (ts : List TermLists). count_locations (map term_lists ts)) is in
-    omega (arith, l, p, ls, ps)
-
 -- ---- the first of the terms
 
 pub first_given : (terms : List TermLists) (first : TermLists) → slice_get terms 0 ≡ Some first → (others : List TermLists) × (terms ≡ first ∷ others)

@@ -1,5 +1,5 @@
 -- Bytes that are written ahead, one behind the other.
-use Rattle.std.proofs.Common.{◌≡◌, inl, refl, ℕ, ◌+◌, ◌≤◌, List, ◌++◌, length, take, drop, sym, ◌∙◌, ap, arith, append_assoc, length-append}
+use Rattle.std.proofs.Common.{◌≡◌, inl, ℕ, ◌+◌, ◌≤◌, List, ◌++◌, length, take, drop, sym, ◌∙◌, ap, arith, append_assoc, length-append}
 use Rattle.std.proofs.lemmas.List.{take_at, drop-drop, length-take-le}
 use Rattle.alta_disk.specs.Disk.{DiskState, After, Holds, IsLawful, Only, Passes, Stands, Torn}
 use Rattle.std.specs.Prelude.{Result, Ok, Err, OnOk}
@@ -13,14 +13,6 @@ use Rattle.alta_journal.proofs.Steps.{torn_then, torn_wide}
 pub holds_there : (at : ℕ) (bytes image : List ℕ) → HasBytes at bytes image → Holds image at bytes image
 holds_there at bytes image here =
     split_at_part at (length bytes) image ∙ ap (λ (l : List ℕ). (take at image ++ l) ++ drop (at + length bytes) image) here
-
-pub torn_nothing : (at n : ℕ) (image : List ℕ) → Torn at n image image
-torn_nothing at n image = record {
-  before = refl;
-  after = refl;
-  no_shorter = omega arith;
-  no_longer = omega arith;
-}
 
 -- more bytes behind those that were written
 pub holds_more : (at : ℕ) (some more a b c : List ℕ) → at ≤ length a → Holds a at some b → Holds b (at + length some) more c → Holds a at (some ++ more) c

@@ -1,41 +1,20 @@
 -- What a reader of entries finds.
-use Rattle.std.proofs.Common.{◌≡◌, ℕ, ◌<◌, ◌^◌, true, false, List, Option, Some, None, refl, sym, ◌∙◌, ap, subst, arith}
+use Rattle.std.proofs.Common.{◌≡◌, ℕ, ◌<◌, ◌^◌, List, Some, None, refl, sym, ◌∙◌, ap, subst, arith}
 use Rattle.std.specs.Prelude.{IsUtf8}
 use Rattle.std.proofs.lemmas.Str.{IsUtf8-from_ascii}
 use Rattle.std.proofs.lemmas.Str.Ascii.{IsAscii-from_all}
 use Rattle.std.proofs.lemmas.List.Elements.{All-weaker}
 use Rattle.alta_codec.specs.Name.{IsGraphic, IsName}
-use Rattle.alta_journal.specs.Entry.{is_old, MayBeRecorded}
+use Rattle.alta_journal.specs.Entry.{MayBeRecorded}
 use Rattle.alta_journal.specs.Found.{IsFound, AreFound}
 use Rattle.alta_layout.specs.Wide.{of_eight}
 use Rattle.alta_journal.specs.Reading.{cut, texts_in, add_in, replace_in}
-use Rattle.alta_journal.specs.declared.entry.Entry.{Entry}
 use Rattle.alta_journal.specs.declared.entry.Entry.TheVariants.{Add, Replace}
 use Rattle.alta_journal.proofs.ReadingLaws.{bind_is}
 
 -- a name is UTF-8
 pub name_utf8 : (name : List ℕ) → IsName name → IsUtf8 name
 name_utf8 name is_name = IsUtf8-from_ascii name (IsAscii-from_all name (All-weaker IsGraphic (λ b. b < 128) (λ b graphic. omega (arith, graphic.1)) name is_name.2))
-
--- what a record may hold under a root of any version, it may hold under one of version 2
-pub newest_rules : (version : ℕ) (entry : Entry) → MayBeRecorded version entry → MayBeRecorded 2 entry
-newest_rules version entry sound = (sound.0, sound.1, λ one. absurd (omega (arith, one)))
-
--- no entry of version 2 is none of any version
-pub found_none : (version : ℕ) (found : Option Entry) → IsFound 2 found None → IsFound version found None
-found_none version found none = λ entry sound is. none entry (newest_rules version entry sound) is
-
--- an entry of version 2 is none of version 1 where it is not old
-pub found_new : (version : ℕ) (found : Option Entry) (entry : Entry) → IsFound 2 found (Some entry) → version ≡ 1 → is_old entry ≡ false → IsFound version found None
-found_new version found entry is_found one new = λ other sound is.
-    let same : Some entry ≡ Some other = sym is_found.1 ∙ is in
-    let entry_is : entry ≡ other = cc (same) in
-    let clash : false ≡ true = sym new ∙ ap is_old entry_is ∙ sound.2 one in
-    absurd (cc (clash))
-
--- and else it is one of that version
-pub found_old : (version : ℕ) (found : Option Entry) (entry : Entry) → IsFound 2 found (Some entry) → (version ≡ 1 → is_old entry ≡ true) → IsFound version found (Some entry)
-found_old version found entry is_found old = ((is_found.0.0, is_found.0.1, old), is_found.1)
 
 -- no add, where no texts are found
 pub no_add : (bytes : List ℕ) → AreFound (texts_in bytes) None → IsFound 2 (add_in bytes) None

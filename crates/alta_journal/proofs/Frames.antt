@@ -1,9 +1,7 @@
 -- What the layers above need of a half, under a root of any version: where its tail lies, and what leaves its entries as they are.
 use Rattle.std.proofs.Common.{◌≡◌, ℕ, ◌+◌, ◌-◌, ◌<◌, ◌≤◌, List, [], ◌∷◌, length, get_or, sym, ◌∙◌, ap, subst, arith}
-use Rattle.alta_layout.specs.declared.places.TheConstants.{GATE_CLOSED, HALF_BYTES, HEAD_BYTES}
+use Rattle.alta_layout.specs.declared.places.TheConstants.{HALF_BYTES, HEAD_BYTES}
 use Rattle.alta_disk.specs.Parts.{part, Clear, Touches}
-use Rattle.alta_disk.specs.Disk.{Holds}
-use Rattle.alta_disk.specs.Writes.{holds_torn}
 use Rattle.alta_disk.proofs.PartLaws.{touches_torn}
 use Rattle.alta_journal.specs.Journal.{Begins, EndsAt, Appends}
 use Rattle.alta_journal.specs.Places.{half_at, left_behind, HasClosedGate}
@@ -42,7 +40,3 @@ module _ (version : ℕ) where
   -- an append touches what the half has from its gate on
   pub appends_touch : (start place : ℕ) (entry : Entry) (old new : List ℕ) → Appends version start place entry old new → Touches ((place, 1 + left_behind start place) ∷ []) old new
   appends_touch start place entry old new appends = touches_torn place (1 + left_behind start place) ((place, 1 + left_behind start place) ∷ []) old new appends.outside (λ a m clear. clear.0)
-
--- a format touches one byte
-pub format_touches : (start : ℕ) (old new : List ℕ) → start ≤ length old → Holds old start (GATE_CLOSED ∷ []) new → Touches ((start, 1) ∷ []) old new
-format_touches start old new inside holds = touches_torn start 1 ((start, 1) ∷ []) old new (holds_torn old start (GATE_CLOSED ∷ []) new inside holds) (λ a m clear. clear.0)

@@ -25,9 +25,5 @@ begun_more first last next size ranges longer range small in_it great is pushed 
     } in
     subst (λ (list : List Range). IsBegun first last (next + size) list) (sym pushed) (subst (λ (n : ℕ). IsBegun first last (next + n) (ranges ++ range ∷ [])) (sym is) step)
 
--- there is room for one more
-pub begun_room : (first last next : ℕ) (ranges : List Range) (range : Range) → last < 2 ^ 32 → next ≤ last → IsGreatest next last range → IsBegun first last next ranges → length ranges < 62
-begun_room first last next ranges range small in_it great begun = (behind next last (length ranges) range small in_it great begun.few).0
-
 pub begun_whole : (first last next : ℕ) (ranges : List Range) → last < next → IsBegun first last next ranges → Covers first last ranges
 begun_whole first last next ranges past begun = subst (λ (list : List Range). Covers first last list) (append-nil ranges) (begun.rest [] past)

@@ -1,9 +1,7 @@
 -- Names in a map and in a state.
-use Rattle.std.proofs.Common.{◌≡◌, ℕ, Bool, true, false, cond, List, refl, ◌∙◌, ap, rules}
-use Rattle.std.specs.Prelude.{◌||◌, Some, Option, String, is_some}
+use Rattle.std.proofs.Common.{◌≡◌, ℕ, Bool, true, false, cond, List, refl, ◌∙◌, rules}
+use Rattle.std.specs.Prelude.{◌||◌, Some, Option, is_some}
 use Rattle.std.specs.Str.{bytes_eq}
-use Rattle.std.specs.BTreeMap.{BTreeMap, get_by_text}
-use Rattle.std.specs.Map.{update}
 use Rattle.std.proofs.lemmas.List.Folds.{list_any-append}
 use Rattle.std.proofs.lemmas.Slice.Eq.{bytes_eq-Decides}
 use Rattle.alta_machine.specs.declared.document.Document.{Document}
@@ -20,12 +18,6 @@ bytes_eq-swap xs ys =
 found : {X : Type 0} (b : Bool) (v : X) (o : Option X) → is_some (cond b (Some v) o) ≡ (b || is_some o)
 found true v o = refl
 found false v o = refl
-
--- a name that is noted is found, and so is each that was
-pub is_some-noted : {Y : Type 0} (m n : BTreeMap (String Y) ℕ) (key : List ℕ) (v : ℕ) → ((q : List ℕ) → get_by_text n q ≡ update bytes_eq (get_by_text m) key (Some v) q)
-    → (q : List ℕ) → is_some (get_by_text n q) ≡ (bytes_eq q key || is_some (get_by_text m q))
-is_some-noted m n key v noted q =
-    ap is_some (noted q) ∙ found (bytes_eq key q) v (get_by_text m q) ∙ ap (λ (b : Bool). b || is_some (get_by_text m q)) (bytes_eq-swap key q)
 
 or_swap : (a b : Bool) → (a || (b || false)) ≡ (b || a)
 or_swap true true = refl

@@ -7,13 +7,10 @@ use Rattle.std.proofs.lemmas.Bool.{false≢true}
 use Rattle.std.proofs.lemmas.List.{map-append}
 use Rattle.std.proofs.lemmas.List.Elements.{All-nil, All-cons, All-head, All-tail, All-append, All-filter, All-weaker}
 use Rattle.std.proofs.lemmas.Slice.Eq.{bytes_eq-Decides}
-use Rattle.alta_journal.specs.declared.entry.Entry.{Entry}
-use Rattle.alta_journal.specs.declared.entry.Entry.TheVariants.{Add, Delete, Replace}
 use Rattle.alta_machine.specs.Cells.{cells_of}
 use Rattle.alta_machine.specs.States.{number_of, name_of, Rise, AllDiffer, IsState}
 use Rattle.alta_machine.specs.declared.document.Document.{Document}
 use Rattle.alta_machine.specs.declared.document.State.{State}
-use Rattle.alta_meaning.specs.Entries.{Allows, AllowsAll, after_entry, after_entries}
 use Rattle.alta_machine.specs.Changes.{has_name, has_named, with_added, with_deleted, with_replaced, without}
 use Rattle.alta_meaning.proofs.Tests.{by_test, filter_keep, filter_drop, bytes_from, and_left, and_right, or_both, or_last, or_neither}
 
@@ -148,13 +145,3 @@ pub named_free : (name : List ℕ) (number : ℕ) (s : State) → IsState s → 
 named_free name number s is named = left_free name number s.documents is.distinct named
 
 -- ---- entries, and what an image stands for
-
-entry_state : (s : State) (entry : Entry) → Allows s entry → IsState s → IsState (after_entry s entry)
-entry_state s (Add name title body) allowed is = added_state name title body s allowed.0 is
-entry_state s (Delete number) allowed is = left_state (λ (d : Document). not (d.number == number)) s is
-entry_state s (Replace number name title body) allowed is =
-    added_state name title body (without number s) (named_free name number s is allowed.0) (left_state (λ (d : Document). not (d.number == number)) s is)
-
-entries_state : (entries : List Entry) (s : State) → AllowsAll s entries → IsState s → IsState (after_entries s entries)
-entries_state [] s allowed is = is
-entries_state (entry ∷ entries) s allowed is = entries_state entries (after_entry s entry) allowed.1 (entry_state s entry allowed.0 is)

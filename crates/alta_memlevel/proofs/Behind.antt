@@ -34,7 +34,3 @@ may_join_behind number location contents added content n l h b a c = record {
       flat_map-append (λ (c : Content). c.documents) contents (content ∷ []) ∙ ap (λ l. rows_in contents ++ l) (append-nil content.documents ∙ c.documents) in
       subst AreDocuments (sym rows) (follow_behind number location added a start (rows_in contents) (omega (arith, n)) (omega (arith, l)) h.documents b);
 }
-
-pub rows_behind : (number location : ℕ) (contents : List Content) (added : List Added) → 1 ≤ number → 1 ≤ location
-    → MayJoin contents → All (IsBefore number location) (rows_in contents) → AreAdded number location added → AreDocuments (rows_in contents ++ rows_added added)
-rows_behind number location contents added n l h b a = follow_behind number location added a start (rows_in contents) (omega (arith, n)) (omega (arith, l)) h.documents b

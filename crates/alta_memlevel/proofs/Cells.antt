@@ -92,9 +92,6 @@ before_end name title body = ((78 ∷ name) ∷ (83 ∷ []) ∷ []) ∷ map word
 abbrev pub end_cell : List (List ℕ)
 end_cell = (68 ∷ []) ∷ []
 
-cells_split : (name title body : List ℕ) → cells_of name title body ≡ before_end name title body ++ end_cell ∷ []
-cells_split name title body = refl
-
 pub cells_good : (name title body : List ℕ) → IsName name → All IsGood (cells_of name title body)
 cells_good name title body n =
     let name_term : IsTerm (78 ∷ name) = (refl, refl, omega (arith, n.1)) in

@@ -81,20 +81,6 @@ or_false : (b : Bool) → (b || false) ≡ b
 or_false true = refl
 or_false false = refl
 
--- the location at one more term of a cell, where that term stood before it or not
-pub once_held : (cell : List (List ℕ)) (i : ℕ) (t other : List ℕ) → i < length cell → slice_get cell i ≡ Some t → cell_holds t (take i cell) ≡ true
-    → cell_holds other (take (i + 1) cell) ≡ cell_holds other (take i cell)
-once_held cell i t other l g held =
-    let e : get_or cell i [] ≡ t = get_or_from_slice_get cell i t [] g in
-    let more : cell_holds other (take (i + 1) cell) ≡ (cell_holds other (take i cell) || bytes_eq t other) =
-    subst (λ x. cell_holds other (take (i + 1) cell) ≡ (cell_holds other (take i cell) || bytes_eq x other)) e (list_any_more (λ h. bytes_eq h other) cell i [] l) in
-    ⊎_elim
-    (λ y. let same : t ≡ other = (bytes_decides t other).0 y in
-    let there : cell_holds other (take i cell) ≡ true = subst (λ x. cell_holds x (take i cell) ≡ true) same held in
-    more ∙ ap (λ b. b || bytes_eq t other) there ∙ sym there)
-    (λ n. more ∙ ap (λ b. cell_holds other (take i cell) || b) n ∙ or_false (cell_holds other (take i cell)))
-    (cases_Bool (bytes_eq t other))
-
 pub once_new : (cell : List (List ℕ)) (i x : ℕ) (t other base : List ℕ) → i < length cell → slice_get cell i ≡ Some t → cell_holds t (take i cell) ≡ false
     → (base ++ cond (cell_holds other (take i cell)) (x ∷ []) []) ++ cond (bytes_eq t other) (x ∷ []) [] ≡ base ++ cond (cell_holds other (take (i + 1) cell)) (x ∷ []) []
 once_new cell i x t other base l g new =

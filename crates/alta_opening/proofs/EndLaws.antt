@@ -118,10 +118,6 @@ module _ (before : Before) (rows : List DocRow) (are : AreDocumentsBehind before
       both ∙ ap (are_ends (row ∷ drop (i + 1) rows)) (ends_from ends at more)
       ∙ first_missing (behind_rows before (take i rows)) row (drop (i + 1) rows) (get_or ends at 0) (drop (at + 1) ends) stands low
 
--- where no end is left all are passed
-pub none_left : (rows others : List DocRow) (ends : List ℕ) (at : ℕ) → length ends ≤ at → are_ends rows (drop at ends) ≡ are_ends others (drop at ends)
-none_left rows others ends at past = ap (are_ends rows) (drop_all at ends past) ∙ sym (ap (are_ends others) (drop_all at ends past))
-
 -- a row of the first of two lists
 pub record IsRowOf (rows : List DocRow) (i : ℕ) (row : DocRow) : Type 0 where
   pub inside : i < length rows

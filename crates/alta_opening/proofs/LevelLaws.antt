@@ -46,9 +46,6 @@ module _ (root : Root) (deleted : List ℕ) (levels : List Tables) (extent : Ext
   pub tables_first : (image : List ℕ) → tables_at extent image ≡ Ok level → with_level root deleted levels extent image ≡ admitted root deleted levels extent level
   tables_first image found = rw found refl
 
-pub no_tables : (root : Root) (deleted : List ℕ) (levels : List Tables) (extent : Extent) (image : List ℕ) (place : ℕ) → tables_at extent image ≡ Err place → with_level root deleted levels extent image ≡ Err place
-no_tables root deleted levels extent image place found = rw found refl
-
 -- ---- what is kept behind one more
 
 -- rows that are in order do

@@ -22,11 +22,6 @@ all_placed before [] are = All-nil IsPlaced
 all_placed before (row ∷ rows) are =
     All-cons IsPlaced row rows (record { positive = omega (arith, are.0.starts_behind); some = omega (arith, are.0.some_cells); below = are.0.end_below }) (all_placed (behind_row before row) rows are.1)
 
--- the rows behind a row
-pub rows_behind : (before : Before) (row : DocRow) (rows : List DocRow) → AreDocumentsBehind before (row ∷ rows) → AreDocumentsBehind (behind_row before row) rows
-unfolding AreDocumentsBehind
-rows_behind before row rows are = are.1
-
 -- what the last row leaves behind
 pub last_leaves : (k : ℕ) (before : Before) (rows : List DocRow) (d : DocRow) → k + 1 ≡ length rows
     → behind_rows before rows ≡ record { number = (get_or rows k d).number; end = end_of (get_or rows k d) }

@@ -37,12 +37,6 @@ longer bs new n same small =
 pub row_value : (f : Row → ℕ) (rows : List Row) (i : ℕ) (d row : Row) → i < length rows → row ≡ get_or rows i d → f row ≡ get_or (map f rows) i 0
 row_value f rows i d row l h = ap f h ∙ sym (get_or-map f rows i d 0 l)
 
-pub no_rows : (bs : List ℕ) (rows : List Row) → length bs ≡ 0 → HasRowFields bs rows 0
-no_rows bs rows z = record {
-  sized = omega arith;
-  values = record { first = λ i l. absurd (omega arith); last = λ i l. absurd (omega arith); place = λ i l. absurd (omega arith) };
-}
-
 -- three fields more are one row more
 pub rows_more : (b0 b1 b2 b3 : List ℕ) (rows : List Row) (i : ℕ) (d row : Row) → HasRowFields b0 rows i → i < length rows → row ≡ get_or rows i d
     → IsLonger b0 b1 row.first → IsLonger b1 b2 row.last → IsLonger b2 b3 row.place → HasRowFields b3 rows (i + 1)
@@ -70,9 +64,6 @@ rows_more b0 b1 b2 b3 rows i d row h l e x y z =
       };
     }
 
-pub no_groups : (bs : List ℕ) (rows : List Row) → HasRowFields bs rows (length rows) → HasGroupFields bs rows 0
-no_groups bs rows h = record { sized = omega (arith, h.sized); values = h.values; group = λ g l. absurd (omega arith) }
-
 -- one field more is one group more
 pub groups_more : (b0 b1 : List ℕ) (rows : List Row) (g n : ℕ) (d row : Row) → HasGroupFields b0 rows g → 0 < length rows → n ≡ last_row (length rows) g → row ≡ get_or rows n d
     → IsLonger b0 b1 row.last → HasGroupFields b1 rows (g + 1)
@@ -90,20 +81,8 @@ groups_more b0 b1 rows g n d row h some w e x = record {
       (cases_lt j g);
 }
 
-kept_few : (n : ℕ) → n < 2 → kept_of n ≡ 0
-kept_few n l = grind (arith, nat_tests)
-
 kept_many : (n : ℕ) → 2 ≤ n → kept_of n ≡ n
 kept_many n l = grind (arith, nat_tests)
-
--- one row or none
-pub small_table : (bs : List ℕ) (rows : List Row) → length bs ≡ 0 → length rows < 2 → IsTableOf bs rows
-small_table bs rows z few =
-    let e = kept_few (length rows) few in
-    record {
-      table = subst (λ b. IsSummary bs b) (sym e) (record { rows = record { sized = omega arith; many = λ h. absurd (omega arith) }; keeps = λ k l. absurd (omega arith) });
-      values = subst (λ b. HasRowValues bs rows b) (sym e) (record { first = λ i l. absurd (omega arith); last = λ i l. absurd (omega arith); place = λ i l. absurd (omega arith) });
-    }
 
 keeps_rules : (bs : List ℕ) (rows : List Row) (k : ℕ) → AreRows rows → HasGroupFields bs rows (groups_of (length rows)) → 2 ≤ length rows → k < fields_of (length rows) → Keeps bs (length rows) k
 keeps_rules bs rows k r h many l = record {

@@ -1,5 +1,5 @@
 -- What bytes are read as, number by number, and that this is the list that they spell.
-use Rattle.std.proofs.Common.{◌≡◌, ⊎_elim, inl, ℕ, zero, suc, ◌+◌, ◌-◌, ◌*◌, ◌<◌, ◌≤◌, List, [], ◌∷◌, ◌++◌, length, take, drop, get_or, refl, sym, subst, ap, ◌∙◌, arith, length-append, length-drop, append_assoc, append-nil}
+use Rattle.std.proofs.Common.{◌≡◌, ⊎_elim, inl, ℕ, zero, suc, ◌+◌, ◌-◌, ◌*◌, ◌<◌, ◌≤◌, List, [], ◌∷◌, ◌++◌, length, take, drop, get_or, refl, sym, subst, ap, ◌∙◌, arith, length-append, length-drop, append-nil}
 use Rattle.std.specs.Prelude.{Result, Ok, Err, Option, Some, None, IfSome, cond, nat_lt, nat_eq}
 use Rattle.std.proofs.Math.Seq.{drop-append_seam, drop-append-add}
 use Rattle.std.proofs.Math.ListN.{drop_of_length-le}
@@ -253,25 +253,6 @@ before_low : (before k : ℕ) (xs : List ℕ) → RisesAbove before xs → k ≤
 before_low before zero xs r l h = h
 before_low before (suc k) [] r l h = absurd (omega arith)
 before_low before (suc k) (x ∷ xs) (a, b, r) l h = before_low x k xs r (omega arith) b
-
--- a step of a loop that reads at most n
-pub take_step : (n : ℕ) (out ys l whole new : List ℕ) (y : ℕ) → l ≡ y ∷ ys → length out < n → new ≡ out ++ (y ∷ []) → out ++ take (n - length out) l ≡ whole → new ++ take (n - length new) ys ≡ whole
-take_step n out ys l whole new y e lt same h =
-    let m = n - length new in
-    let size : length new ≡ length out + 1 = ap length same ∙ length-append out (y ∷ []) in
-    let more : n - length out ≡ suc m = omega arith in
-    let here : take (n - length out) l ≡ y ∷ take m ys = ap (λ x. take (n - length out) x) e ∙ ap (λ i. take i (y ∷ ys)) more in
-    ap (λ x. x ++ take m ys) same ∙ append_assoc out (y ∷ []) (take m ys) ∙ ap (λ x. out ++ x) (sym here) ∙ h
-
-abbrev pub the_empty : List ℕ
-the_empty = []
-
-take_nil : (n : ℕ) → take n (the_empty) ≡ the_empty
-take_nil zero = refl
-take_nil (suc n) = refl
-
-pub take_end : (n : ℕ) (out l whole : List ℕ) → l ≡ [] → out ++ take n l ≡ whole → out ≡ whole
-take_end n out l whole e h = sym (append-nil out) ∙ ap (λ x. out ++ x) (sym (ap (λ x. take n x) e ∙ take_nil n)) ∙ h
 
 pub list_ends : (out l whole : List ℕ) → l ≡ [] → out ++ l ≡ whole → out ≡ whole
 list_ends out l whole e h = sym (append-nil out) ∙ ap (λ x. out ++ x) (sym e) ∙ h

@@ -1,5 +1,5 @@
 -- Numbers of one or of two bytes.
-use Rattle.std.proofs.Common.{◌≡◌, ⊎_elim, inr, ℕ, ◌+◌, ◌-◌, ◌*◌, ◌/◌, ◌%◌, ◌<◌, ◌≤◌, min, List, [], ◌∷◌, ◌++◌, length, take, drop, get_or, refl, sym, subst, ap, ◌∙◌, arith}
+use Rattle.std.proofs.Common.{◌≡◌, ⊎_elim, inr, ℕ, ◌+◌, ◌-◌, ◌*◌, ◌<◌, ◌≤◌, List, length, drop, get_or, refl, sym, subst, ap, ◌∙◌, arith}
 use Rattle.std.specs.Prelude.{Err, Some, None}
 use Rattle.std.proofs.lemmas.Bool.{cases_lt}
 use Rattle.alta_codec.specs.declared.location.TheConstants.{TOP}
@@ -7,16 +7,9 @@ use Rattle.alta_codec.specs.declared.number.CodeFault.{CodeFault}
 use Rattle.alta_codec.specs.declared.number.CodeFault.TheVariants as code
 use Rattle.alta_codec.specs.Numbers.{with_low, number_from}
 use Rattle.alta_codec.proofs.Numerals.{read_ok, AreBytes, number_last, number_long, number_more}
-use Rattle.alta_postings.specs.Deltas.{cause_of, fault_at, fault_from, list_from, IsStep}
+use Rattle.alta_postings.specs.Deltas.{cause_of, fault_at, fault_from, IsStep}
 use Rattle.alta_postings.specs.Short.{IsShort}
 use Rattle.alta_postings.proofs.Reading.{number_two, shows_code, sound_at, step_at}
-
-pub short_is : (s : List ℕ) (at first second high : ℕ) → first ≡ get_or s at 0 → second ≡ get_or s (at + 1) 0 → first < 256 → min first second < 128
-    → (first < 128 → high ≡ 0) → (128 ≤ first → high ≡ second) → IsShort s at (first % 128 + 128 * high) (at + 1 + first / 128)
-short_is s at first second high a b byte short low up = record {
-  one = λ l. (omega (arith, low (omega arith)), omega arith);
-  two = λ g. (omega arith, omega (arith, up (omega arith)), omega arith);
-}
 
 pub short_number : (s : List ℕ) (at n e : ℕ) → at + 1 < length s → IsShort s at n e → (128 ≤ get_or s at 0 → 0 < get_or s (at + 1) 0) → number_from 9 at (drop at s) ≡ read_ok n e
 short_number s at n e l h some =
@@ -59,9 +52,6 @@ one_number s at l low = sym (number_last s at 9 l (omega arith) low (inr (omega 
 pub one_step : (s : List ℕ) (at before : ℕ) → AreBytes s → at < length s → 0 < get_or s at 0 → get_or s at 0 < 128 → before + get_or s at 0 < TOP → IsStep s at before (before + get_or s at 0) (at + 1)
 one_step s at before bytes l some low top = step_at s at before (get_or s at 0) (at + 1) bytes l (one_number s at l low) some top
 
-pub one_low : (s : List ℕ) (at before : ℕ) → AreBytes s → at < length s → get_or s at 0 < 128 → fault_from at 0 before (drop at s) ≡ None → before + get_or s at 0 < TOP
-one_low s at before bytes l low none = (sound_at s at before (get_or s at 0) (at + 1) bytes l (one_number s at l low) none).low
-
 pub one_sound : (s : List ℕ) (at before n : ℕ) → AreBytes s → at < length s → n ≡ get_or s at 0 → n < 128 → fault_from at 0 before (drop at s) ≡ None → IsStep s at before (before + n) (at + 1)
 one_sound s at before n bytes l e low none =
     let h = one_number s at l (omega arith) ∙ ap (λ i. read_ok i (at + 1)) (sym e) in
@@ -84,17 +74,3 @@ two_step s at before y bytes l more some last is top =
     let k : at + 2 ≡ at + 1 + 1 = omega arith in
     let here = step_at s at before n (at + 2) bytes (omega arith) (sym (number_two s at (get_or s at 0 - 128) (get_or s (at + 1) 0) l refl refl more some last)) (omega arith) (omega arith) in
     subst (λ (i : ℕ). IsStep s at before y i) k (subst (λ (i : ℕ). IsStep s at before i (at + 2)) e here)
-
-pub low_in_run : (s : List ℕ) (at i last y : ℕ) → AreBytes s → at + i < length s → get_or s (at + i) 0 < 128 → fault_from (at + i) 0 last (drop (at + i) s) ≡ None → y ≡ last + get_or s (at + i) 0 → y < TOP
-low_in_run s at i last y bytes l low none e = omega (arith, one_low s (at + i) last bytes l low none)
-
--- what a place and nothing behind it read is what the place reads
-pub none_begins : (s : List ℕ) (at last : ℕ) → fault_from at 0 last (drop at s) ≡ None → fault_from (at + 0) 0 last (drop (at + 0) s) ≡ None
-none_begins s at last h = let e : at ≡ at + 0 = omega arith in subst (λ (k : ℕ). fault_from k 0 last (drop k s) ≡ None) e h
-
-pub list_begins : (s out : List ℕ) (at last : ℕ) → out ++ take (64 - length out) (list_from (at + 0) 0 last (drop (at + 0) s)) ≡ out ++ take (64 - length out) (list_from at 0 last (drop at s))
-list_begins s out at last = let e : at + 0 ≡ at = omega arith in ap (λ (k : ℕ). out ++ take (64 - length out) (list_from k 0 last (drop k s))) e
-
-pub take_begins : (out l whole : List ℕ) → length out ≡ 0 → whole ≡ l → out ++ take (64 - length out) l ≡ take 64 whole
-take_begins [] l whole z e = ap (λ (x : List ℕ). take 64 x) (sym e)
-take_begins (x ∷ xs) l whole z e = absurd (omega arith)

@@ -1,11 +1,11 @@
 -- Numbers of one or of two bytes, by what the lanes of vectors add up to.
 use Rattle.std.proofs.Common.{◌≡◌, ⊎_elim, ℕ, zero, suc, ◌+◌, ◌-◌, ◌*◌, ◌/◌, ◌%◌, ◌^◌, ◌<◌, ◌≤◌, eqb, ltb, leb, Bool, false, cond, List, [], ◌∷◌, map, length, take, drop, get_or, replicate, w8, refl, sym, subst, ap, ap₂, ◌∙◌, arith}
 use Rattle.std.proofs.Math.Seq.{drop-cons}
-use Rattle.std.proofs.lemmas.Bool.{cases_lt, cases_eq, cases_Bool, cond_both, leb-false, le-leb, lt-leb, lt-ltb, le-ltb, ne_eqb, true≢false}
+use Rattle.std.proofs.lemmas.Bool.{cases_lt, cases_eq, cases_Bool, leb-false, le-leb, lt-leb, lt-ltb, le-ltb, ne_eqb, true≢false}
 use Rattle.std.proofs.lemmas.List.{length-map, get_or-map}
 use Rattle.std.proofs.lemmas.Simd.{length-chunk, get_or-chunk, length-zip2, get_or-zip2, get_or-sel_l, bit_mask_l, mask_l-lt, zip2_splat, zip2_splat_left, zip2_of_maps, map-map, mask_l-mod, tops_compared}
 use lib.Bits.{bit_or}
-use lib.Lanes.{Each1, zip2, chunk, sum_l, sel_l, mask_l, top}
+use lib.Lanes.{zip2, chunk, sum_l, sel_l, mask_l, top}
 use Rattle.alta_codec.specs.declared.location.TheConstants.{TOP}
 use Rattle.alta_codec.proofs.Numerals.{AreBytes}
 use Rattle.alta_postings.specs.Short.{IsReadTo}
@@ -100,17 +100,6 @@ chunk_is (suc n) s p l =
     let e : suc p ≡ p + 1 = omega arith in
     ap (λ t. take (suc n) t) (drop-cons s p 0 (omega arith)) ∙ ap (λ i. get_or s p 0 ∷ take n (drop i s)) e ∙ ap (λ t. get_or s p 0 ∷ t) (chunk_is n s (p + 1) (omega arith))
 
-pub length-lanes : (n : ℕ) (s : List ℕ) (p : ℕ) → length (lanes s p n) ≡ n
-length-lanes zero s p = refl
-length-lanes (suc n) s p = ap suc (length-lanes n s (p + 1))
-
-abbrev pub AreLow : List ℕ → Type 0
-AreLow xs = Each1 (λ x. x ≤ 255) xs
-
-pub lanes_low : (n : ℕ) (s : List ℕ) (p : ℕ) → ((i : ℕ) → get_or s i 0 ≤ 255) → AreLow (lanes s p n)
-lanes_low zero s p b = tt
-lanes_low (suc n) s p b = (b p, lanes_low n s (p + 1) b)
-
 -- of the lanes of another vector, those that stand at a byte of 128 or more, and 0 for the others
 abbrev pub picked : List ℕ → ℕ → ℕ → List ℕ → List ℕ
 picked s p n xs = sel_l (zip2 leb (replicate n 128) (lanes s p n)) xs (replicate n 0)
@@ -119,16 +108,6 @@ pub picked_is : (s : List ℕ) (p n : ℕ) (here xs : List ℕ) → here ≡ lan
     → sel_l (map (top 7) (zip2 (λ a b. cond (leb a b) 255 0) (replicate n 128) here)) xs (replicate n 0) ≡ picked s p n xs
 picked_is s p n here xs e =
     ap (λ ms. sel_l ms xs (replicate n 0)) (tops_compared w8 leb (replicate n 128) here) ∙ ap (λ l. sel_l (zip2 leb (replicate n 128) l) xs (replicate n 0)) e
-
-pub length-picked : (n : ℕ) (s : List ℕ) (p : ℕ) (xs : List ℕ) → length xs ≡ n → length (picked s p n xs) ≡ n
-length-picked zero s p xs e = refl
-length-picked (suc n) s p [] e = absurd (omega arith)
-length-picked (suc n) s p (x ∷ xs) e = ap suc (length-picked n s (p + 1) xs (omega arith))
-
-pub picked_low : (n : ℕ) (s : List ℕ) (p : ℕ) (xs : List ℕ) → AreLow xs → AreLow (picked s p n xs)
-picked_low zero s p xs b = tt
-picked_low (suc n) s p [] b = tt
-picked_low (suc n) s p (x ∷ xs) (l, b) = (cond_both (leb 128 (get_or s p 0)) x 0 (λ y. y ≤ 255) (λ e. l) (λ e. omega arith), picked_low n s (p + 1) xs b)
 
 -- the sum of these bytes, of those behind a byte of 128 or more, and how many of those there are
 pub sums : List ℕ → ℕ → ℕ → ℕ

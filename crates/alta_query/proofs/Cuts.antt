@@ -1,5 +1,5 @@
 -- Where a query's text may be cut.
-use Rattle.std.proofs.Common.{◌≡◌, ℕ, ◌+◌, ◌-◌, ◌≤◌, ◌<◌, List, [], ◌∷◌, ◌++◌, length, drop, get_or, true, false, Bool, arith, sym, ap, ◌∙◌, subst, IsTrue}
+use Rattle.std.proofs.Common.{◌≡◌, ℕ, ◌+◌, ◌-◌, ◌≤◌, ◌<◌, List, [], ◌∷◌, ◌++◌, length, drop, get_or, false, Bool, arith, sym, ap, ◌∙◌, subst, IsTrue}
 use Rattle.std.specs.Prelude.{nat_eq, codes, not}
 use Rattle.std.specs.List.{prefix_len, position_or_len, starts_with, ends_with}
 use Rattle.std.specs.Str.{IsCharBoundary, IsUtf8}
@@ -32,9 +32,6 @@ undotted_low b h = grind (arith, nat_tests)
 
 pub undotted_boundary : (text : List ℕ) (n : ℕ) → n ≡ prefix_len is_undotted text → n ≤ length text → IsCharBoundary text n
 undotted_boundary = stop_boundary is_undotted undotted_low
-
-quote_low : (b : ℕ) → (is_quote b ≡ true) → b < 128
-quote_low b h = grind (arith, nat_tests)
 
 not_quote_low : (b : ℕ) → (not (is_quote b) ≡ false) → b < 128
 not_quote_low b h = grind (arith, nat_tests)

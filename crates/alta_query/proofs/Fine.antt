@@ -92,11 +92,6 @@ star_split text h =
     let k : codes "*" ≡ drop (length text - 1) text = (bytes_eq-Decides (codes "*") (drop (length text - 1) text)).0 h in
     ap (λ x. take (length text - 1) text ++ x) k ∙ take-append-drop (length text - 1) text
 
-all_take : (p : ℕ → Bool) (n : ℕ) (s : List ℕ) → list_all p s ≡ true → list_all p (take n s) ≡ true
-all_take p zero s h = refl
-all_take p (suc n) [] h = refl
-all_take p (suc n) (b ∷ bs) h = let k = both (p b) (list_all p bs) h in rw (k.0, all_take p n bs k.1) refl
-
 all_drop : (p : ℕ → Bool) (n : ℕ) (s : List ℕ) → list_all p s ≡ true → list_all p (drop n s) ≡ true
 all_drop p zero s h = h
 all_drop p (suc n) [] h = refl

@@ -339,10 +339,6 @@ pub best-none_kept : (count : ℕ) (every kept : List Scored) (a : Scored) → I
     → IsBest count (every ++ a ∷ []) kept
 best-none_kept count every kept a best full none = leaves count every kept a best full (λ k d l. absurd (none (omega (arith, l))))
 
--- it comes before the last where its score is greater, or the same and its number lesser
-pub before_score : (a last : Scored) → last.score < a.score → lt a last ≡ true
-before_score a last l = grind (arith, l)
-
 pub before_number : (a last : Scored) → last.score ≡ a.score → a.number < last.number → lt a last ≡ true
 before_number a last e l = grind (arith, e, l)
 

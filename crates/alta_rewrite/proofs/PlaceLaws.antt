@@ -1,8 +1,7 @@
 -- What places are found.
-use Rattle.std.proofs.Common.{◌≡◌, ℕ, suc, zero, ◌+◌, ◌<◌, ◌^◌, Bool, false, cond, List, [], ◌++◌, refl, sym, ap, subst, ◌∙◌, arith, Result, Ok, Err}
-use Rattle.std.specs.Prelude.{◌==◌, IfSome, Option, Some, None}
+use Rattle.std.proofs.Common.{◌≡◌, ℕ, suc, zero, ◌<◌, Bool, false, cond, List, [], ◌++◌, refl, sym, ap, subst, ◌∙◌, arith, Result, Ok, Err}
+use Rattle.std.specs.Prelude.{◌==◌, Option, Some, None}
 use Rattle.alta_codec.specs.declared.extent.Extent.{Extent}
-use Rattle.alta_meaning.proofs.FullLaws.{placed_first}
 use Rattle.alta_meaning.proofs.KeptStates.{err_ok, ok_is}
 use Rattle.alta_meaning.proofs.Tests.{by_test, equal_from}
 use Rattle.alta_meaning.specs.Chain.{◌>>=◌}
@@ -66,7 +65,3 @@ module _ (limit : ℕ) (root : Root) (oldest newest list : ℕ) (places : Places
 
   pub places_are : places_for limit root oldest newest list ≡ Ok places → ArePlaces limit root oldest newest list places
   places_are e = by_oldest (place_for (taken_by root []) oldest limit) refl e
-
-pub level_below : (taken : List Extent) (bytes limit : ℕ) (found : Option Extent) → limit < 2 ^ 64 → IsPlaceFor taken bytes limit found → IfSome found (λ (e : Extent). e.place + e.bytes < 2 ^ 64)
-level_below taken bytes limit None short is = tt
-level_below taken bytes limit (Some x) short is = let first = placed_first taken bytes limit x is.1 in omega (arith, first.0.gap.before, first.1, short)

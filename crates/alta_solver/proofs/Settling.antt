@@ -1,5 +1,5 @@
 -- One repair after another, until all bounds hold.
-use Rattle.std.proofs.Common.{◌≡◌, ◌≢◌, ⊎_elim, ℕ, ◌+◌, ◌*◌, ◌<◌, ◌≤◌, Option, None, Some, IfSome, List, length, get_or, refl, sym, subst, ap, ◌∙◌, arith}
+use Rattle.std.proofs.Common.{◌≡◌, ◌≢◌, ⊎_elim, ℕ, ◌+◌, ◌*◌, ◌<◌, ◌≤◌, None, Some, List, length, get_or, refl, sym, subst, ap, ◌∙◌, arith}
 use Rattle.std.proofs.Math.Nat.{mul-le-mul_left}
 use Rattle.std.specs.Prelude.{slice_index}
 use Rattle.alta_codec.specs.declared.location.TheConstants.{TOP}
@@ -10,12 +10,9 @@ use Rattle.alta_codec.specs.Inequality.{Inequality}
 use Rattle.alta_solver.specs.Bounds.{IsNamed}
 use Rattle.alta_solver.specs.Solution.{list_at, low_side, MeetsBound, IsAtLeast, IsSolution, IsLeast}
 use Rattle.alta_solver.specs.Repair.{IsRepaired}
-use Rattle.alta_solver.specs.Settling.{HoldFrom, IsSettling, IsTried}
+use Rattle.alta_solver.specs.Settling.{IsSettling, IsTried}
 use Rattle.alta_solver.proofs.Raised.{same_or_not}
 use Rattle.alta_solver.proofs.Repaired.{high_side-mono}
-
-pub at_least_trans : (a b c : List ℕ) → length b ≡ length a → IsAtLeast a b → IsAtLeast b c → IsAtLeast a c
-at_least_trans a b c e f h i l = omega (arith, f i l, h i (omega arith))
 
 -- a bound holds on, where the reader that is bounded stays and the other does not go back
 pub holds_on : (lists : List (List ℕ)) (c : Inequality) (now new : List ℕ) → slice_index new c.i ≡ slice_index now c.i
@@ -27,15 +24,6 @@ holds_on lists c now new e h holds =
       high_side-mono c.form (list_at lists c.j) (slice_index now c.j) (slice_index new c.j) h,
       holds,
     )
-
-pub settling_none : (lists : List (List ℕ)) (bounds : List Inequality) (old : List ℕ) → IsSettling lists bounds old old (length bounds)
-settling_none lists bounds old =
-    record {
-      forward = λ i l. omega arith;
-      sized = refl;
-      keeps = λ x s h. h;
-      hold = λ k d l w. absurd (omega arith);
-    }
 
 module _ (lists : List (List ℕ)) (bounds : List Inequality) (old new : List ℕ) (at : ℕ) (b : Inequality)
     (within : at < length bounds) (is : (d : Inequality) → get_or bounds at d ≡ b) (named : IsNamed (length lists) bounds) (sized : length old ≡ length lists) where
@@ -93,44 +81,6 @@ module _ (lists : List (List ℕ)) (bounds : List Inequality) (old new : List �
         none = λ _ x h a. m.stuck refl x a (solution_place x h) (solution_holds x h);
       }
 
--- one try after another
-pub tried_then : (lists ks : List (List ℕ)) (bounds : List Inequality) (old mid new : List ℕ) (at next : ℕ) (result : Option ℕ) → ks ≡ lists
-    → IsTried lists bounds old mid at (Some next) → IsTried ks bounds mid new next result → IsTried lists bounds old new at result
-tried_then lists ks bounds old mid new at next result same one other =
-    let two : IsTried lists bounds mid new next result = subst (λ ls. IsTried ls bounds mid new next result) same other in
-    record {
-      forward = at_least_trans old mid new one.sized one.forward two.forward;
-      sized = two.sized ∙ one.sized;
-      keeps = λ x s h. two.keeps x s (one.keeps x s h);
-      hold = elim result as (λ r. IfSome r (λ n. HoldFrom lists bounds next mid → HoldFrom lists bounds n new) → IfSome r (λ n. HoldFrom lists bounds at old → HoldFrom lists bounds n new)) [
-        | Some n ↦ λ f h. f (one.hold h)
-        | None ↦ λ f. tt
-      ] two.hold;
-      within = two.within;
-      none = λ e x s h. two.none e x s (one.keeps x s h);
-    }
-
--- a try on the way
-pub settling_on : (lists ks : List (List ℕ)) (bounds : List Inequality) (old now new : List ℕ) (at next : ℕ) → ks ≡ lists
-    → IsSettling lists bounds old now at → IsTried ks bounds now new at (Some next) → IsSettling lists bounds old new next
-settling_on lists ks bounds old now new at next same s other =
-    let t : IsTried lists bounds now new at (Some next) = subst (λ ls. IsTried ls bounds now new at (Some next)) same other in
-    record {
-      forward = at_least_trans old now new s.sized s.forward t.forward;
-      sized = t.sized ∙ s.sized;
-      keeps = λ x h a. t.keeps x h (s.keeps x h a);
-      hold = t.hold s.hold;
-    }
-
-pub settling_stuck : (lists ks : List (List ℕ)) (bounds : List Inequality) (old now new : List ℕ) (at : ℕ) → ks ≡ lists
-    → IsSettling lists bounds old now at → IsTried ks bounds now new at None
-    → IsAtLeast old new × ((x : List ℕ) → IsSolution lists bounds x → IsAtLeast old x → ⊥)
-settling_stuck lists ks bounds old now new at same s other =
-    let t : IsTried lists bounds now new at None = subst (λ ls. IsTried ls bounds now new at None) same other in (
-      at_least_trans old now new s.sized s.forward t.forward,
-      λ x h a. t.none refl x h (s.keeps x h a),
-    )
-
 -- where all bounds hold, the places are the least solution
 pub settling_done : (lists : List (List ℕ)) (bounds : List Inequality) (old now : List ℕ) → IsSettling lists bounds old now 0
     → slice_index now 0 < TOP → length now ≡ length lists → ((i : ℕ) → i < length lists → IsPlace (list_at lists i) (slice_index now i))
@@ -146,11 +96,6 @@ settling_done lists bounds old now s led sized places =
       above = s.forward;
       least = s.keeps;
     }
-
--- where the first place is past its last location, there is no solution
-pub settling_past : (lists : List (List ℕ)) (bounds : List Inequality) (old now : List ℕ) (at : ℕ) → IsSettling lists bounds old now at
-    → 0 < length now → TOP ≤ slice_index now 0 → (x : List ℕ) → IsSolution lists bounds x → IsAtLeast old x → ⊥
-settling_past lists bounds old now at s some past x h a = omega (arith, s.keeps x h a 0 some, h.led, past)
 
 -- fewer bounds are left to test, and no more to move
 pub fewer_to_test : (a b n at next : ℕ) → b ≤ a → next < at → (n + 1) * b + next < (n + 1) * a + at

@@ -1,8 +1,6 @@
 -- Places of names and streams, as rows are read.
-use Rattle.std.proofs.Common.{◌≡◌, ℕ, zero, suc, ◌+◌, ◌-◌, ◌≤◌, ◌<◌, ◌^◌, List, [], ◌∷◌, ◌++◌, length, get_or, take, map, Ok, Some, refl, sym, ap, ◌∙◌, arith, length-append}
-use Rattle.std.specs.Prelude.{slice_get}
+use Rattle.std.proofs.Common.{◌≡◌, ℕ, zero, suc, ◌+◌, ◌-◌, ◌≤◌, ◌<◌, ◌^◌, List, [], ◌∷◌, ◌++◌, length, get_or, take, map, Ok, refl, sym, ap, ◌∙◌, arith, length-append}
 use Rattle.std.proofs.lemmas.List.{get_or_default}
-use Rattle.std.proofs.lemmas.List.Sums.{sum_by_more}
 use Rattle.alta_format.specs.Format.{AreBytes, read, entries_bytes, state_behind}
 use Rattle.alta_format.proofs.FormatLaws.{AreBytes-rest, read_spells}
 use Rattle.alta_format.proofs.EntryLaws.{entries_bytes-push, state_behind-push}
@@ -11,13 +9,10 @@ use Rattle.alta_content.specs.declared.document.DocRow.{DocRow}
 use Rattle.alta_table.specs.declared.term.TermRow.{TermRow}
 use Rattle.alta_table.specs.Documents.{row_bytes, row_format, documents_table, documents_bytes}
 use Rattle.alta_content.specs.Rows.{Before, behind_row, start}
-use Rattle.alta_table.specs.Terms.{counts_of, data_of, streams_of, terms_of}
-use Rattle.alta_table.specs.Places.{name_place, name_places, stream_place, stream_extent, summary_extent, tables_in, AreParts, HasPassed}
+use Rattle.alta_table.specs.Places.{name_place, name_places, tables_in, AreParts}
 use Rattle.alta_table.specs.Marks.{IsHeld, rows_in}
-use Rattle.alta_table.specs.Walks.{row_of, term_of}
 use Rattle.alta_table.specs.declared.sizes.Head.{Head}
 use Rattle.alta_table.specs.declared.parts.Parts.{Parts}
-use Rattle.alta_table.specs.declared.walk.Walk.{Walk}
 use Rattle.alta_table.specs.Tables.{read_head, tables_of}
 use Rattle.alta_table.proofs.TableLaws.{tables_are}
 use Rattle.alta_table.proofs.RowLaws.{row_spelled, row-some}
@@ -138,40 +133,5 @@ name_is p row at a lt here =
     here ∙ get_or_default p.names.items row at 0 (omega (arith, names-len p a, lt)) ∙ ap (λ (l : List ℕ). get_or l row 0) a.names_are ∙ name_places-at (p.place + 32) start p.documents.value row lt
     ∙ ap (λ (k : ℕ). p.place + 32 + length (documents_bytes (take k p.documents.value)) - length (name_at p.documents.value row)) next
 
-map_at : (f : TermRow → ℕ) (rows : List TermRow) (row : ℕ) (d : TermRow) → row < length rows → get_or (map f rows) row 0 ≡ f (get_or rows row d)
-map_at f [] row d lt = absurd (omega (arith, lt))
-map_at f (t ∷ rows) zero d lt = refl
-map_at f (t ∷ rows) (suc row) d lt = map_at f rows row d (omega (arith, lt))
-
--- a number of the row that a walk passed last
-passed_at : (p : Parts) (row : ℕ) (w : Walk) (f : TermRow → ℕ) → HasPassed p.terms row w → f (row_of w) ≡ get_or (map f (terms_at p)) row 0
-passed_at p row w f h = ap f h.row_is ∙ sym (map_at f (terms_at p) row (row_of w) h.within)
-
-pub count_is : (p : Parts) (row : ℕ) (w : Walk) → HasPassed p.terms row w → w.count ≡ get_or (counts_of (terms_at p)) row 0
-count_is p row w h = passed_at p row w (λ t. t.count) h
-
-pub term_is : (p : Parts) (row : ℕ) (w : Walk) → HasPassed p.terms row w → slice_get (terms_of (terms_at p)) row ≡ Some (term_of w)
-term_is p row w h = got (terms_at p) row (row_of w) h.within ∙ ap (λ (t : TermRow). Some t.term) (sym h.row_is)
-  where
-    got : (rows : List TermRow) (row : ℕ) (d : TermRow) → row < length rows → slice_get (terms_of rows) row ≡ Some (get_or rows row d).term
-    got [] row d lt = absurd (omega (arith, lt))
-    got (t ∷ rows) zero d lt = refl
-    got (t ∷ rows) (suc row) d lt = got rows row d (omega (arith, lt))
-
--- where the row's stream begins: its bytes, its summary's, and those behind it stand from there to the end of the segment
-pub stream_from : (p : Parts) (row : ℕ) (w : Walk) → AreParts p → HasPassed p.terms row w → stream_place (tables_in p) row + w.stream + w.summary + w.left ≡ p.end
-stream_from p row w a h =
-    omega (arith, h.stands.sum, a.held.sum, a.ends, sum_by_more data_of (terms_at p) row (row_of w) h.within, ap data_of h.row_is)
-
 abbrev extent : ℕ → ℕ → Extent
 extent place bytes = record { place = place; bytes = bytes }
-
-pub stream_extent_is : (p : Parts) (row : ℕ) (w : Walk) → AreParts p → HasPassed p.terms row w → extent (p.end - w.left - w.summary - w.stream) w.stream ≡ stream_extent (tables_in p) row
-stream_extent_is p row w a h =
-    let place : p.end - w.left - w.summary - w.stream ≡ stream_place (tables_in p) row = omega (arith, stream_from p row w a h) in
-    ap (λ (k : ℕ). extent k w.stream) place ∙ ap (λ (k : ℕ). extent (stream_place (tables_in p) row) k) (passed_at p row w (λ t. t.stream) h)
-
-pub summary_extent_is : (p : Parts) (row : ℕ) (w : Walk) → AreParts p → HasPassed p.terms row w → extent (p.end - w.left - w.summary) w.summary ≡ summary_extent (tables_in p) row
-summary_extent_is p row w a h =
-    let place : p.end - w.left - w.summary ≡ stream_place (tables_in p) row + get_or (streams_of (terms_at p)) row 0 = omega (arith, stream_from p row w a h, passed_at p row w (λ t. t.stream) h) in
-    ap (λ (k : ℕ). extent k w.summary) place ∙ ap (λ (k : ℕ). extent (stream_place (tables_in p) row + get_or (streams_of (terms_at p)) row 0) k) (passed_at p row w (λ t. t.summary) h)

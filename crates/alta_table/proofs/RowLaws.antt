@@ -1,5 +1,5 @@
 -- What the fields of a document row say is its one spelling.
-use Rattle.std.proofs.Common.{◌≡◌, ⊎_elim, get_or, ℕ, ◌-◌, ◌+◌, ◌≤◌, ◌<◌, ◌^◌, List, [], ◌∷◌, ◌++◌, length, refl, sym, ap, subst, ◌∙◌, arith, append_assoc}
+use Rattle.std.proofs.Common.{◌≡◌, ⊎_elim, get_or, ℕ, ◌-◌, ◌+◌, ◌≤◌, ◌<◌, List, [], ◌∷◌, ◌++◌, length, refl, sym, ap, subst, ◌∙◌, arith, append_assoc}
 use Rattle.std.specs.Prelude.{IsTrue, All}
 use Rattle.std.specs.Str.{IsUtf8}
 use Rattle.std.proofs.lemmas.List.{get_or_past, length-append}
@@ -78,9 +78,6 @@ row_spelled before bytes r rest (more, b1, has1, kept1, (gap, b2, has2, kept2, (
     let numbers : number_bytes more ++ (number_bytes gap ++ (number_bytes cells ++ (len ∷ (name ++ rest)))) ≡ number_bytes (before.number + more - before.number) ++ (number_bytes (before.end + gap - before.end) ++ (number_bytes cells ++ (length name ∷ (name ++ rest)))) =
     rw (less before.number more, less before.end gap, has5.len_is) refl in
     subst (λ (x : DocRow). MayFollow before x × (bytes ≡ row_bytes before x ++ rest)) same (keeps, text ∙ numbers ∙ sym (row_parts before made rest))
-
-wide_enough : TOP < 2 ^ 64
-wide_enough = omega arith
 
 pub row_spells : (before : Before) (bytes : List ℕ) (r : DocRow) (rest : List ℕ) → MayFollow before r → bytes ≡ row_bytes before r ++ rest → Spells (row_format before) bytes r rest
 unfolding Spells row_format

@@ -205,23 +205,6 @@ high_side rows prefix begun row m lt fails i d le within =
 abbrev pub IsFirstOr : List ℕ → List Mark → List ℕ → Bool → ℕ → Type 0
 IsFirstOr heads marks prefix begun k = (k ≡ 0) ⊎ ((k < length marks) × ((d : Mark) → stands_by prefix begun (head_of heads (get_or marks k d)) ≡ true))
 
-pub mark_stands : (heads : List ℕ) (marks : List Mark) (prefix : List ℕ) (begun : Bool) (k low : ℕ) (m : Mark) (term : List ℕ) → k < length marks → low ≡ k + 1 → m ≡ get_or marks k m → term ≡ head_of heads m
-    → stands_by prefix begun term ≡ true → (d : Mark) → stands_by prefix begun (head_of heads (get_or marks (low - 1) d)) ≡ true
-mark_stands heads marks prefix begun k low m term lt next is text stands d =
-    let at : k ≡ low - 1 = omega (arith, next) in
-    let same : term ≡ head_of heads (get_or marks (low - 1) d) = text ∙ ap (head_of heads) (is ∙ get_or_default marks k m d lt) ∙ ap (λ (j : ℕ). head_of heads (get_or marks j d)) at in
-    subst (λ (t : List ℕ). stands_by prefix begun t ≡ true) same stands
-
-pub mark_is : (heads : List ℕ) (marks : List Mark) (prefix : List ℕ) (begun : Bool) (low k : ℕ) → low ≤ length marks → k ≡ low - 1
-    → (low ≡ 0) ⊎ ((d : Mark) → stands_by prefix begun (head_of heads (get_or marks (low - 1) d)) ≡ true) → IsFirstOr heads marks prefix begun k
-mark_is heads marks prefix begun low k le is found =
-    ⊎_elim (λ (none : low ≡ 0). inl (omega (arith, is, none)))
-    (λ stands. ⊎_elim
-    (λ (some : 0 < low). inr (omega (arith, is, some, le), λ d. subst (λ (j : ℕ). stands_by prefix begun (head_of heads (get_or marks j d)) ≡ true) (sym is) (stands d)))
-    (λ (none : low ≤ 0). inl (omega (arith, is, none)))
-    (cases_lt 0 low))
-    found
-
 pub mark_within : (heads : List ℕ) (marks : List Mark) (prefix : List ℕ) (begun : Bool) (k : ℕ) → IsFirstOr heads marks prefix begun k → (k ≡ 0) ⊎ (k < length marks)
 mark_within heads marks prefix begun k found = ⊎_elim (λ (none : k ≡ 0). inl none) (λ some. inr some.0) found
 

@@ -4,10 +4,8 @@ use Rattle.std.proofs.Math.Seq.{take-length}
 use Rattle.std.proofs.lemmas.Bool.{cases_lt}
 use Rattle.std.proofs.lemmas.List.{length-append, length-take, length-take-le, take-take, take_at, take_all, take-append-le, drop_at, drop-drop, get_or-take}
 use Rattle.std.proofs.lemmas.List.Sums.{sum_by_push}
-use Rattle.alta_format.specs.declared.field.ReadFault.{ReadFault}
 use Rattle.alta_format.specs.declared.field.ReadFault.TheVariants as errors
 use Rattle.alta_format.specs.Format.{◌>>=◌, AreBytes, read, repeated}
-use Rattle.alta_format.specs.Gives.{Fails}
 use Rattle.alta_format.proofs.FormatLaws.{AreBytes-rest, read_followed, read_spells, ok_err}
 use Rattle.alta_format.proofs.EntryLaws.{from_start, goes_on, stops, closed, left_over}
 use Rattle.alta_table.specs.declared.term.TermRow.{TermRow}
@@ -148,11 +146,6 @@ next_is total count room rows left i behind rest is lt b = of_read (read (term_f
     of_read : (r : Result (TermRow × List ℕ) ℕ) → read (term_format behind) rest ≡ r → (row : TermRow) × (more : List ℕ) × (read (term_format behind) rest ≡ Ok (row, more))
     of_read (Ok x) e = (x.0, x.1, e)
     of_read (Err gone) e = absurd (ok_err total ((rows, left), []) gone is (stops terms_table (errors.Broken gone) count i behind (take i rows) rest total lt e b.reads))
-
--- a walk cannot fail there
-pub never_fails : (e : ReadFault) (r : Result (TermRow × List ℕ) ℕ) (row : TermRow) (more : List ℕ) → r ≡ Ok (row, more) → Fails e r → (e ≡ errors.Memory → ⊥) → ⊥
-never_fails errors.Memory r row more is f lean = lean refl
-never_fails (errors.Broken gone) r row more is f lean = ok_err r (row, more) gone is f
 
 -- ---- what reading finds
 

@@ -95,20 +95,6 @@ starts_first list s r x =
     let all = count_from-all list (get_or list 0 TOP) (λ i l. at_le list 0 i r (omega arith) l) in
     (x.at_is ∙ first, ap (λ n. count_from list n) x.at_is ∙ all)
 
--- on the way to a location
-pub way_begins : (list : List ℕ) (to i place last : ℕ) → IsBehind list i place last → last < to → IsOnWay list to last place last
-way_begins list to i place last b low = record { read = i; behind = b; low = low; before_is = λ h. absurd (omega arith) }
-
-pub way_goes_on : (list : List ℕ) (to before place at y e : ℕ) (w : IsOnWay list to before place at) → at < to → IsNextOf list w.read at y e → IsOnWay list to at e y
-way_goes_on list to before place at y e w low n =
-    let k : w.read ≡ w.read + 1 - 1 = omega arith in
-    record {
-      read = w.read + 1;
-      behind = n.behind;
-      low = low;
-      before_is = λ _. (omega arith, w.behind.last_is ∙ ap (λ j. get_or (0 ∷ list) j 0) k);
-    }
-
 -- no way ends before a location that the list has
 pub way_has_more : (list : List ℕ) (to before place at : ℕ) (w : IsOnWay list to before place at) → IsRising list → at < to → to ≤ pred_of list TOP → w.read ≡ length list → 1 ≤ 0
 way_has_more list to before place at w r low there all =
