@@ -1,19 +1,24 @@
 #!/usr/bin/env python3
 """Asks the same searches again and again between lines that change an index: tests/kept.py [--program PATH]
 
-A search keeps the longer lists that it read and tested, until the levels change. So each search of one long run has to answer as in a run
-of its own over the same documents, whatever was asked before. A list that is broken has to be told at the same place, in the same order,
-whatever was kept before. The rows compare runs of the program with one another; its answers are compared with the models by `work.py`.
+A search keeps the longer lists that it read and tested, until the root is switched: what is added or deleted leaves them. So each search of
+one long run has to answer as in a run of its own over the same documents, whatever was asked before, also behind an add that finds the journal
+full, and so switches the root. A list that is broken has to be told at the same place, in the same order, whatever was kept before. A list that
+is kept is not read again, which a change of its bytes by another hand shows. The rows compare runs of the program with one another; its answers
+are compared with the models by `work.py`.
 """
 
 import argparse
 import os
+import subprocess
 import tempfile
 
 from support import answered, run_lines
 from worked import Index
 
 MANY = 400  # documents, so that the list of a word in each is kept
+LEVELS = 16  # as many as an index may have
+LONG = 250_000  # bytes of a text; the journal has no room for five such
 
 
 def document(number, word="common"):
@@ -74,10 +79,32 @@ def again(make):
         raise SystemExit(f"kept: {found[place]!r} in place of {whole[place]!r}, the reply {place}")
 
 
+def full(make):
+    """Searches between adds of which the last flushes: of sixteen levels the two oldest are joined, so each has another number."""
+    levels = [line for level in range(LEVELS) for line in (*(document(number + level * MANY) for number in range(level, MANY)), "flush")]
+    texts = [f"add long{number}\tAlpha\t{'a' * LONG}" for number in range(5)]
+    file = make()
+    file.run(*levels)
+    with open(file.path, "rb") as opened:
+        content = opened.read()
+    before = len(file.root()[1])
+    found = file.run(*(line for text in texts for line in (text, *QUERIES)))
+    after = len(file.root()[1])
+    if (before, after) != (LEVELS, LEVELS):
+        raise SystemExit(f"kept: {before} levels, and then {after}")
+    whole = []
+    for at, text in enumerate(texts):
+        file = make(content)
+        file.run(*texts[:at])
+        whole += file.run(text) + file.run(*QUERIES)
+    if found != whole:
+        raise SystemExit("kept: searches behind an add that flushes answer as before it")
+
+
 def broken_at(make, content, extent, word, others):
-    """The content with a byte changed that breaks the list of this word, and none of the others."""
+    """The content with a byte changed that breaks the list of this word, and none of the others. Lists stand behind the tables."""
     begin, length = extent
-    for at in range(begin, begin + length, 5):
+    for at in range(begin + length - 1, begin, -5):
         changed = content[:at] + bytes([content[at] ^ 0x55]) + content[at + 1 :]
         path = make(changed).path
         asked = [run_lines(make.program, path, [f"count {each}"])[0] for each in (word, *others)]
@@ -93,8 +120,9 @@ def broken(make):
     answered(make.program, file.path, [*(f"add d{number}\t\t{' '.join(words)}" for number in range(MANY)), "flush"])
     (extent,) = file.root()[1]
     with open(file.path, "rb") as opened:
-        content = opened.read()
-    content = broken_at(make, content, extent, "two", ("one", "three"))
+        whole = opened.read()
+    content = broken_at(make, whole, extent, "two", ("one", "three"))
+    read_once(make, whole, content)
     alone = run_lines(make.program, make(content).path, ["count two"])
     both = broken_at(make, content, extent, "three", ("one",))
     rows = ((content, "count two", alone), (content, "count one AND two", alone), (content, "top 1 two AND three", alone), (both, "count three AND one AND two", None))
@@ -105,6 +133,28 @@ def broken(make):
         status, replies, said = run_lines(make.program, path, ["count one", "top 1 one", "count one", query])
         if (status, said) != (want[0], want[2]) or status != 6 or replies != [*before[1], before[1][0]]:
             raise SystemExit(f"kept: {status} {said!r} in place of {want}: {query}")
+
+
+def read_once(make, content, changed):
+    """A kept list is not read again until the root is switched: meanwhile another hand breaks it on the disk."""
+    file = make(content)
+    ((at, byte),) = ((at, new) for at, (old, new) in enumerate(zip(content, changed)) if old != new)
+    with subprocess.Popen([make.program, file.path, "run"], stdin=subprocess.PIPE, stdout=subprocess.PIPE, stderr=subprocess.PIPE, text=True, bufsize=1) as process:
+
+        def ask(*lines):
+            process.stdin.write("".join(f"{line}\n" for line in lines))
+            return [process.stdout.readline().strip() for _ in lines]
+
+        found = ask("count two")
+        with open(file.path, "r+b") as opened:
+            opened.seek(at)
+            opened.write(bytes([byte]))
+        found += ask("add other\t\ttwo", "count two", "add d7\t\ttwo", "count two", "delete d9", "count two", "flush")
+        found += process.communicate("count two\n")
+        found.append(process.returncode)
+    counts = [f"found {MANY + more}" for more in (0, 1, 1, 0)]
+    if found[:7:2] != counts or found[7:9] != ["ok", ""] or found[10] != 6:
+        raise SystemExit(f"kept: {found}, while a list that is kept is broken on the disk")
 
 
 class Make:
@@ -126,6 +176,7 @@ def main():
     with tempfile.TemporaryDirectory(dir=place) as folder:
         make = Make(program, folder)
         again(make)
+        full(make)
         broken(make)
     print(f"kept: {len(CHANGES)} changes, {len(QUERIES)} searches")
 

@@ -38,7 +38,7 @@ lists_in lists = map (λ (l : TermList). l.locations) lists
 
 -- ---- a list, seen in its segment and on the image
 
-window : (place n k a : ℕ) (image : List ℕ) → k + a ≤ n → take a (drop k (take n (drop place image))) ≡ part (place + k) a image
+pub window : (place n k a : ℕ) (image : List ℕ) → k + a ≤ n → take a (drop k (take n (drop place image))) ≡ part (place + k) a image
 window place n k a image le =
     let e : n ≡ k + (n - k) = omega (arith, le) in
     ap (λ (j : ℕ). take a (drop k (take j (drop place image)))) e ∙ ap (take a) (drop-take k (n - k) (drop place image)) ∙ take-take a (n - k) (drop k (drop place image)) (omega (arith, le))

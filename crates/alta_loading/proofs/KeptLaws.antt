@@ -1,39 +1,105 @@
 -- What is known of lists that were tested.
-use Rattle.std.proofs.Common.{◌≡◌, ◌⊎◌, ⊎_elim, inl, inr, ℕ, ◌<◌, List, [], ◌∷◌, insert, take, drop, length, get_or, refl, sym, subst, ap, ◌∙◌}
-use Rattle.std.specs.Prelude.{All, Contains, Ok, Some, slice_get}
-use Rattle.std.proofs.lemmas.List.Elements.{All-nil, All-cons, All-append, All-take, All-drop, All-weaker, All-contains, All-contains_itself, All-get_or}
+use Rattle.std.proofs.Common.{◌≡◌, ◌⊎◌, ⊎_elim, inl, inr, ℕ, zero, suc, ◌+◌, ◌<◌, ◌≤◌, ◌++◌, List, [], ◌∷◌, insert, take, drop, length, get_or, refl, sym, subst, ap, ap₂, ◌∙◌, arith}
+use Rattle.std.specs.Prelude.{All, Contains, Ok, Option, None, Some, slice_get}
+use Rattle.std.specs.List.{sum_by}
+use Rattle.std.proofs.lemmas.List.Elements.{All-nil, All-cons, All-append, All-take, All-drop, All-weaker, All-contains, All-contains_itself, All-get_or, All-head}
 use Rattle.std.proofs.lemmas.Option.{get_or_from_slice_get, slice_get_read, slice_get_within}
-use Rattle.alta_loading.proofs.Contents.{spelled_is}
+use Rattle.std.proofs.lemmas.List.Sums.{sum_by-cons}
+use Rattle.alta_content.specs.Lists.{end_term}
+use Rattle.alta_disk.specs.Parts.{part}
+use Rattle.alta_loading.proofs.Contents.{spelled_is, window}
 use Rattle.alta_loading.specs.Kept.{AreKept, AreTestedIn, HasKept, IsListOfRow, IsNoneKept, IsTestedIn, IsTestedList, KeepsAlso, KeepsTested}
-use Rattle.alta_loading.specs.Lists.{KeepsRow}
-use Rattle.alta_loading.specs.Loads.{IsWhole, Load, Tells, list_at, stored_by}
-use Rattle.alta_level.specs.Stored.{IsListFault, IsListOf}
+use Rattle.alta_loading.specs.Lists.{KeepsRow, stored_as, stored_in, stream_size, summary_size}
+use Rattle.alta_loading.specs.Loads.{IsWhole, Load, Tells, load_at, row_from, stored_by}
+use Rattle.alta_level.specs.Stored.{IsListFault, IsListOf, Stored}
+use Rattle.alta_meaning.specs.Opened.{bytes_at, extent_of}
+use Rattle.alta_postings.specs.Deltas.{decoded_list}
 use Rattle.alta_loading.specs.Tested.{AreEndsWhole}
 use Rattle.alta_loading.specs.declared.kept.Ends.{Ends}
 use Rattle.alta_loading.specs.declared.kept.KeptList.{KeptList}
 use Rattle.alta_loading.specs.declared.kept.KeptLists.{KeptLists}
-use Rattle.alta_table.specs.Tables.{Tables}
+use Rattle.alta_table.specs.Places.{stream_place}
+use Rattle.alta_table.specs.Tables.{Tables, tables_bytes, total_of}
+use Rattle.alta_table.specs.Terms.{data_bytes, data_of, streams_of, summaries_of}
+use Rattle.alta_table.specs.declared.term.TermRow.{TermRow}
 
--- ---- the same image
+-- ---- an image where levels have the same bytes
 
-module _ (tells : Type 0) (a b : List ℕ) (same : tells → a ≡ b) where
-  moved : (load : Load) (list : List ℕ) → IsTestedList tells a load list → IsTestedList tells b load list
-  moved load list h = record {
-    keeps = h.keeps;
-    are = λ t. subst (λ (i : List ℕ). list ≡ list_at i load) (same t) (h.are t);
-    told = λ t. subst (λ (i : List ℕ). Tells {X = Unit {0}} i (load ∷ []) (Ok tt)) (same t) (h.told t);
-  }
+-- the stream and the summary of a row lie among those of all
+row_within : (rows : List TermRow) (row : ℕ) → sum_by data_of (take row rows) + get_or (streams_of rows) row 0 + get_or (summaries_of rows) row 0 ≤ data_bytes rows
+row_within [] row = omega arith
+row_within (r ∷ rows) zero = omega (arith, sum_by-cons data_of r rows)
+row_within (r ∷ rows) (suc row) = omega (arith, row_within rows row, sum_by-cons data_of r rows, sum_by-cons data_of r (take row rows))
 
-  tested_moved : (number : ℕ) (level : Tables) (kept : KeptLists) → AreTestedIn tells a number level kept → AreTestedIn tells b number level kept
-  tested_moved number level kept h =
-      All-weaker (λ (list : KeptList). list.number ≡ number → IsTestedIn tells a level list) (λ (list : KeptList). list.number ≡ number → IsTestedIn tells b level list)
-      (λ list k is. moved (record { number = list.number; level = level; row = list.row }) list.posting.value (k is)) kept.lists.items h
+part_same : (place n k at a : ℕ) (old new : List ℕ) → at ≡ place + k → k + a ≤ n → part place n new ≡ part place n old → part at a new ≡ part at a old
+part_same place n k at a old new here within same =
+    subst (λ (p : ℕ). part p a new ≡ part p a old) (sym here)
+    (sym (window place n k a new within) ∙ ap (λ (bytes : List ℕ). take a (drop k bytes)) same ∙ window place n k a old within)
 
-  pub kept_moved : (levels : List Tables) (kept : KeptLists) → AreKept tells a levels kept → AreKept tells b levels kept
-  kept_moved levels kept h = record {
-    ends = λ t. subst (λ (i : List ℕ). AreEndsWhole kept.ends i levels) (same t) (h.ends t);
-    lists = λ number level at. tested_moved number level kept (h.lists number level at);
-  }
+-- the level has the same bytes on both
+abbrev IsSameLevel : List ℕ → List ℕ → Tables → Type 0
+IsSameLevel old new level = bytes_at (extent_of level) new ≡ bytes_at (extent_of level) old
+
+-- so the list of each row stands on both
+stored_same : (old new : List ℕ) (level : Tables) (row : ℕ) → IsSameLevel old new level → stored_in level row new ≡ stored_in level row old
+stored_same old new level row same =
+    let total = total_of level.documents level.terms in
+    let before = length (tables_bytes level.documents level.terms) + sum_by data_of (take row level.terms) in
+    let within = row_within level.terms row in
+    ap₂ (stored_as level row) (part_same level.place total before (stream_place level row) (stream_size level row) old new (omega arith) (omega (arith, within)) same)
+    (part_same level.place total (before + stream_size level row) (stream_place level row + stream_size level row) (summary_size level row) old new (omega arith) (omega (arith, within)) same)
+
+whole_stays : (old new : List ℕ) (load : Load) → IsSameLevel old new load.level → IsWhole old load → IsWhole new load
+whole_stays old new load same whole =
+    subst (λ (s : Stored). IsListOf load.level.documents s (decoded_list s.stream)) (sym (stored_same old new load.level load.row same)) whole
+
+told_stays : (old new : List ℕ) (load : Load) → IsSameLevel old new load.level → Tells {X = Unit {0}} old (load ∷ []) (Ok tt) → Tells {X = Unit {0}} new (load ∷ []) (Ok tt)
+told_stays old new load same told = record {
+  whole = All-cons (IsWhole new) load [] (whole_stays old new load same (All-head (IsWhole old) load [] told.whole)) (All-nil (IsWhole new));
+  first = tt;
+  only = λ w. tt;
+  damaged = λ p f. ⊎_elim
+      (λ g. told.damaged p (inl (subst (λ (s : Stored). IsListFault load.level.documents s p) (stored_same old new load.level load.row same) g)))
+      (λ g. absurd g.1) f;
+}
+
+row_stays : (old new : List ℕ) (level : Tables) (row : Option ℕ) → IsSameLevel old new level → All (IsWhole old) (load_at 0 level row) → All (IsWhole new) (load_at 0 level row)
+row_stays old new level None same h = All-nil (IsWhole new)
+row_stays old new level (Some row) same h =
+    let load : Load = record { number = 0; level = level; row = row } in
+    All-cons (IsWhole new) load [] (whole_stays old new load same (All-head (IsWhole old) load [] h)) (All-nil (IsWhole new))
+
+ends_stay : (old new : List ℕ) (levels : List Tables) (ends : Ends) → All (IsSameLevel old new) levels → AreEndsWhole ends old levels → AreEndsWhole ends new levels
+ends_stay old new levels Untested same h = tt
+ends_stay old new levels Tested same h = λ k d within.
+    let level = get_or levels k d in row_stays old new level (row_from 0 level.terms end_term) (same k d within) (h k d within)
+
+tested_stays : (tells : Type 0) (old new : List ℕ) (number : ℕ) (level : Tables) (kept : KeptLists) → (tells → IsSameLevel old new level) → AreTestedIn tells old number level kept → AreTestedIn tells new number level kept
+tested_stays tells old new number level kept same h =
+    All-weaker (λ (list : KeptList). list.number ≡ number → IsTestedIn tells old level list) (λ (list : KeptList). list.number ≡ number → IsTestedIn tells new level list)
+    (λ list k is.
+    let load : Load = record { number = list.number; level = level; row = list.row } in
+    let was = k is in
+    record {
+      keeps = was.keeps;
+      are = λ t. was.are t ∙ ap (λ (s : Stored). decoded_list s.stream) (sym (stored_same old new level list.row (same t)));
+      told = λ t. told_stays old new load (same t) (was.told t);
+    }) kept.lists.items h
+
+-- what is known of the lists of levels holds where their bytes are the same
+pub kept_stays : (tells : Type 0) (old new : List ℕ) (levels : List Tables) (kept : KeptLists) → (tells → All (λ (level : Tables). bytes_at (extent_of level) new ≡ bytes_at (extent_of level) old) levels)
+    → AreKept tells old levels kept → AreKept tells new levels kept
+kept_stays tells old new levels kept same h = record {
+  ends = λ t. ends_stay old new levels kept.ends (same t) (h.ends t);
+  lists = λ number level at.
+      tested_stays tells old new number level kept
+      (λ t. subst (IsSameLevel old new) (get_or_from_slice_get levels number level level at) (All-get_or (IsSameLevel old new) levels number level (slice_get_within levels number level at) (same t)))
+      (h.lists number level at);
+}
+
+-- and on the same image
+pub kept_moved : (tells : Type 0) (a b : List ℕ) (same : tells → a ≡ b) → (levels : List Tables) (kept : KeptLists) → AreKept tells a levels kept → AreKept tells b levels kept
+kept_moved tells a b same levels kept h = kept_stays tells a b levels kept (λ t k d within. ap (bytes_at (extent_of (get_or levels k d))) (sym (same t))) h
 
 -- ---- what is kept
 

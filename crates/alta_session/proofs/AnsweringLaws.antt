@@ -1,15 +1,19 @@
 -- Laws of what the calls of a session do.
-use Rattle.std.proofs.Common.{◌≡◌, ◌≤◌, ℕ, inl, List, refl, ap, sym, subst, ◌∙◌, arith, Option, None, Result, Ok, Err, IfOk, IfErr, OnOk}
+use Rattle.std.proofs.Common.{◌≡◌, ◌≤◌, ◌⊎◌, ℕ, inl, inr, List, refl, ap, sym, subst, ◌∙◌, arith, Option, None, Result, Ok, Err, IfOk, IfErr, OnOk}
 use Rattle.std.proofs.lemmas.Result.{IfOk-weaker}
 use Rattle.alta_disk.specs.Disk.{DiskState, LeavesOnly, IsLawful}
 use Rattle.alta_disk.proofs.Moments.{leaves_start}
+use Rattle.alta_layout.specs.declared.slot.Slot.{Slot}
+use Rattle.alta_loading.specs.Kept.{AreKept, IsNoneKept}
 use Rattle.alta_loading.specs.declared.kept.KeptLists.{KeptLists}
+use Rattle.alta_loading.proofs.KeptLaws.{kept_stays, none_kept}
 use Rattle.alta_machine.specs.declared.document.State.{State}
 use Rattle.alta_search.specs.Open.{AreOpen}
 use Rattle.alta_machine.specs.OpenAnswers.{OpenAnswers}
 use Rattle.alta_search.specs.declared.cursors.OpenCursor.{OpenCursor}
 use Rattle.alta_session.specs.Agreement.{AgreesOn}
 use Rattle.alta_session.specs.Answering.{CanAnswer, AnswersFrom, Answers, SpeaksFrom}
+use Rattle.alta_replies.specs.Loading.{KeptHolds}
 use Rattle.alta_replies.specs.Replies.{IsReply}
 use Rattle.alta_machine.specs.Cursors.{Turn}
 use Rattle.alta_replies.specs.Turns.{Turns}
@@ -18,7 +22,8 @@ use Rattle.alta_session.specs.Tasks.{IsBy, IsWorked, worked_where}
 use Rattle.alta_session.specs.declared.session.Session.{Session}
 use Rattle.alta_session.proofs.AgreementLaws.{agrees_changed, knows_state}
 use Rattle.alta_session.proofs.TaskLaws.{worked_none}
-use Rattle.alta_store.specs.Agreement.{Knows, MaySpeakOf, MaySpeakOfEither}
+use Rattle.alta_store.specs.Agreement.{Knows, MaySpeakOf, MaySpeakOfEither, levels_of}
+use Rattle.alta_store.specs.Calls.{HasSameLevels}
 use Rattle.alta_meaning.specs.Holding.{Holding}
 use Rattle.alta_meaning.specs.Standing.{StandsFor, StandsForEither}
 use Rattle.alta_meaning.specs.Work.{Task}
@@ -26,6 +31,7 @@ use Rattle.alta_store.specs.declared.fault.StoreFault.{StoreFault}
 use Rattle.alta_store.specs.declared.fault.StoreFault.TheVariants.{Disk, Memory, Damaged, Full}
 use Rattle.alta_store.specs.declared.store.Store.{Store}
 use Rattle.alta_store.proofs.Agreements.{images_have, images_stand, knows_spoken}
+use Rattle.alta_table.specs.Tables.{Tables}
 
 pub if_so : {T E : Type 0} (r : Result T E) (P : Type 0) → P → OnOk r P
 if_so (Ok x) P here = here
@@ -49,6 +55,15 @@ is_memory (Err f) e only is = cc
 
 pub same_fault : {T E : Type 0} (r : Result T E) (e f : E) → r ≡ Err e → r ≡ Err f → e ≡ f
 same_fault r e f is other = cc (sym is ∙ other)
+
+-- what is known of the lists of levels holds behind a change, unless it was forgotten: the slot that counts is the one of before, so the levels have stayed
+pub kept_left : (tells : Type 0) (a b : DiskState) (store later : Store) (kept now : KeptLists) (slot : Slot) → KeptHolds tells a store kept → slot ≡ store.slot → (later.slot ≡ store.slot → HasSameLevels tells a b store later)
+    → IsNoneKept now ⊎ ((later.slot ≡ slot) × (now ≡ kept)) → KeptHolds tells b later now
+kept_left tells a b store later kept now slot holds is stay (inl none) = none_kept tells b.content (levels_of later) now none
+kept_left tells a b store later kept now slot holds is stay (inr (here, same)) =
+    let levels = stay (here ∙ is) in
+    subst (λ (ls : List Tables). AreKept tells b.content ls now) (sym levels.tables)
+    (subst (AreKept tells b.content (levels_of store)) (sym same) (kept_stays tells a.content b.content (levels_of store) kept levels.bytes holds))
 
 -- the disk stays as it is
 pub stays : (tells : Type 0) (d : DiskState) (session : Session) (m : Machine) → IsLawful tells d → AgreesOn tells d session m → LeavesOnly (StandsForEither m.state m.state) d d

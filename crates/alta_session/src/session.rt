@@ -3,6 +3,7 @@ ghost use Rattle.std.specs.Prelude.{◌≡◌, ◌⊎◌, ◌+◌, ◌++◌, tru
 ghost use Rattle.alta_codec.specs.Name.{IsName};
 ghost use Rattle.alta_codec.specs.Bytes.{Lacks};
 ghost use Rattle.alta_disk.specs.Disk.{DiskState, Only};
+ghost use Rattle.alta_loading.specs.Kept.{IsNoneKept};
 ghost use Rattle.alta_machine.specs.declared.document.State.{State};
 ghost use Rattle.alta_session.specs.Agreement.{AgreesOn, HasNotFailed};
 ghost use Rattle.alta_session.specs.Answering.{Answers, CanAnswer};
@@ -25,6 +26,7 @@ ghost use Rattle.alta_meaning.specs.Work.{flushes, merges, steps};
 
 use alta_codec::{Text, name_ok};
 use alta_disk::Disk;
+use alta_layout::Slot;
 use alta_loading::KeptLists;
 use alta_machine::LineFault;
 use alta_model::{Line, read_line};
@@ -37,7 +39,7 @@ use std::alloc::Global;
 /// An open index that answers command lines, and the cursors that are open over it.
 #[derive(Drop)]
 pub struct Session {
-    // What searches have learnt of the lists of the levels since the index last changed. It stands first: the heap takes back a long
+    // What searches have learnt of the lists of the levels since these last changed. It stands first: the heap takes back a long
     // list at less cost before the many short pieces of the store.
     kept: KeptLists,
     store: Store,
@@ -190,9 +192,10 @@ impl Session {
         if !name_ok(name.as_bytes()) {
             return text(alloc, "! bad name\n");
         }
+        let before = self.store.slot();
         match self.store.add(disk, name, title, body) {
             Ok(number) => {
-                self.kept.forget();
+                forget_left(&mut self.kept, &self.store, before);
                 added(alloc, number)
             }
             Err(fault) => match fault {
@@ -218,9 +221,10 @@ impl Session {
         ensures answers { Answers D.tells D.state disk.old disk.new self.old self.new result (λ m. changed_by m (adding name.now title.now body.now m.state)) (λ m. task_of_add name.now title.now body.now m.state) }
         ensures works { Works D.tells D.state disk.old disk.new self.old.store (asks (adds name.now title.now body.now)) result }
     {
+        let before = self.store.slot();
         match self.store.replace(disk, name, title, body) {
             Ok(numbers) => {
-                self.kept.forget();
+                forget_left(&mut self.kept, &self.store, before);
                 replaced(alloc, numbers)
             }
             Err(fault) => match fault {
@@ -244,9 +248,10 @@ impl Session {
         if !name_ok(name.as_bytes()) {
             return text(alloc, "! bad name\n");
         }
+        let before = self.store.slot();
         match self.store.delete(disk, name) {
             Ok(number) => {
-                self.kept.forget();
+                forget_left(&mut self.kept, &self.store, before);
                 deleted(alloc, number)
             }
             Err(fault) => match fault {
@@ -262,9 +267,10 @@ impl Session {
         ensures answers { Answers D.tells D.state disk.old disk.new self.old self.new result (λ m. (m, codes "ok\n")) (λ m. Some flushes) }
         ensures works { Works D.tells D.state disk.old disk.new self.old.store (asks asks_flush) result }
     {
+        let before = self.store.slot();
         match self.store.flush(disk) {
             Ok(()) => {
-                self.kept.forget();
+                forget_left(&mut self.kept, &self.store, before);
                 text(alloc, "ok\n")
             }
             Err(fault) => Err(fault),
@@ -277,9 +283,10 @@ impl Session {
         ensures answers { Answers D.tells D.state disk.old disk.new self.old self.new result (λ m. (m, codes "ok\n")) (λ m. Some merges) }
         ensures works { Works D.tells D.state disk.old disk.new self.old.store (asks asks_merge) result }
     {
+        let before = self.store.slot();
         match self.store.merge(disk) {
             Ok(()) => {
-                self.kept.forget();
+                forget_left(&mut self.kept, &self.store, before);
                 text(alloc, "ok\n")
             }
             Err(fault) => Err(fault),
@@ -292,13 +299,23 @@ impl Session {
         ensures answers { Answers D.tells D.state disk.old disk.new self.old self.new result (λ m. (m, codes "ok\n")) (λ m. Some (steps n)) }
         ensures works { Works D.tells D.state disk.old disk.new self.old.store (asks (asks_step n)) result }
     {
+        let before = self.store.slot();
         match self.store.step(disk, n) {
             Ok(()) => {
-                self.kept.forget();
+                forget_left(&mut self.kept, &self.store, before);
                 text(alloc, "ok\n")
             }
             Err(fault) => Err(fault),
         }
+    }
+}
+
+// Forgets what is known of the lists of levels, unless this slot counts still: then the levels have stayed.
+fn forget_left(kept: &mut KeptLists, store: &Store, before: Slot)
+    ensures { IsNoneKept kept.new ⊎ ((store.now.slot ≡ before) × (kept.new ≡ kept.old)) }
+{
+    if store.slot() != before {
+        kept.forget();
     }
 }
 

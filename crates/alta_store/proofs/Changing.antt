@@ -1,14 +1,14 @@
 -- Calls that change a store, one behind the other.
 use Rattle.std.proofs.Common.{◌≡◌, ◌⊎◌, inl, inr, ⊎_elim, ℕ, ◌+◌, ◌≤◌, Bool, true, false, cond, List, [], refl, sym, ◌∙◌, ap, subst, arith, Result, Ok, Err}
-use Rattle.std.specs.Prelude.{◌||◌, not, Option, Some}
-use Rattle.std.specs.List.{sum_by}
+use Rattle.std.specs.Prelude.{◌||◌, not, OnOk, Option, Some}
+use Rattle.std.specs.List.{All, sum_by}
 use Rattle.alta_codec.specs.Faults.{Rose}
 use Rattle.alta_disk.specs.Calls.{Costs}
 use Rattle.alta_disk.specs.Disk.{DiskState, IsLawful, LeavesOnly}
 use Rattle.alta_disk.proofs.Moments.{leaves_as, leaves_start, leaves_then}
 use Rattle.alta_meaning.specs.Chain.{◌>>=◌}
 use Rattle.alta_meaning.specs.Holding.{Holding}
-use Rattle.alta_meaning.specs.Opened.{Opened, IsOpened}
+use Rattle.alta_meaning.specs.Opened.{Opened, IsOpened, bytes_at, extent_of}
 use Rattle.alta_meaning.specs.Standing.{StandsFor, StandsForEither}
 use Rattle.alta_meaning.specs.Switching.{with_entry}
 use Rattle.alta_meaning.specs.Work.{enters, fits, needs_raise}
@@ -20,9 +20,9 @@ use Rattle.alta_journal.specs.Entry.{KeepsRules}
 use Rattle.alta_journal.specs.declared.entry.Entry.{Entry}
 use Rattle.alta_merge.specs.Merging.{Merging}
 use Rattle.alta_machine.specs.declared.document.State.{State}
-use Rattle.alta_store.specs.Agreement.{Agrees, Has, Keeps, MaySpeakOf, MaySpeakOfEither}
+use Rattle.alta_store.specs.Agreement.{Agrees, Has, Keeps, MaySpeakOf, MaySpeakOfEither, levels_of}
 use Rattle.alta_store.specs.Answers.{IsOutside}
-use Rattle.alta_store.specs.Calls.{BecomesEntered, Changes, FindsFirstDamage, GetsRoom, IsCause, NoRefusal, Obeys, joined_by, lacks_room}
+use Rattle.alta_store.specs.Calls.{BecomesEntered, Changes, FindsFirstDamage, GetsRoom, HasSameLevels, IsCause, NoRefusal, Obeys, joined_by, lacks_room}
 use Rattle.alta_store.specs.declared.fault.StoreFault.{StoreFault}
 use Rattle.alta_store.specs.declared.fault.StoreFault.TheVariants as faults
 use Rattle.alta_store.specs.declared.store.Store.{Store}
@@ -75,6 +75,10 @@ damaged_as refuses refuses' may place e why = ⊎_elim (λ is. inl is) (λ rest.
 
 -- ---- nothing was called
 
+-- the levels are the same on one disk
+pub stay_here : (tells : Type 0) (a : DiskState) (store later : Store) → levels_of later ≡ levels_of store → HasSameLevels tells a a store later
+stay_here tells a store later same = record { tables = same; bytes = λ told k d within. refl }
+
 pub costs_none : (bytes : ℕ) (a : DiskState) → Costs bytes a a
 costs_none bytes a = record { faults = omega arith; taken_up = omega arith; taken = omega arith; limit = refl }
 
@@ -86,6 +90,7 @@ changes_idle tells work turns bytes joins a store u lawful agrees none same stil
   agrees = agrees;
   sound = refl;
   knows = λ s knows. knows;
+  levels = λ here. stay_here tells a store store refl;
   works = λ held told has. (held, same held told has, has);
   full = λ held need gap told has e. absurd (not_ok (faults.Full need gap) e);
   images = λ s stands. leaves_start tells a (StandsForEither s s) lawful (λ image here. inl (images_stand tells a s lawful agrees.settled stands image here));
@@ -117,6 +122,7 @@ changes_as {T} tells work work' turns turns' step refuses refuses' bytes joins a
   agrees = c.agrees;
   sound = c.sound;
   knows = c.knows;
+  levels = c.levels;
   works = λ held told has. let w = c.works held told has in (w.0, sym (same held told has) ∙ w.1, w.2);
   full = λ held need gap told has e. sym (same held told has) ∙ c.full held need gap told has e;
   images = c.images;
@@ -139,6 +145,7 @@ changes_as {T} tells work work' turns turns' step refuses refuses' bytes joins a
   agrees = tt;
   sound = tt;
   knows = λ s knows. tt;
+  levels = tt;
   works = λ held told has. tt;
   full = λ held need gap told has e. sym (same held told has) ∙ c.full held need gap told has e;
   images = c.images;
@@ -165,6 +172,7 @@ changes_ok {T} {X} tells work turns step refuses refuses' bytes joins a b store 
   agrees = c.agrees;
   sound = c.sound;
   knows = c.knows;
+  levels = c.levels;
   works = c.works;
   full = λ held need gap told has e. absurd (not_ok (faults.Full need gap) e);
   images = c.images;
@@ -201,6 +209,7 @@ changes_fault {T} {X} tells work turns step refuses refuses' bytes joins a b sto
   agrees = tt;
   sound = tt;
   knows = λ s knows. tt;
+  levels = tt;
   works = λ held told has. tt;
   full = λ held need gap told has e. c.full held need gap told has (carried (faults.Full need gap) e);
   images = c.images;
@@ -248,6 +257,13 @@ costs_then m n a b c one two = record {
 pub costs_more : (m n : ℕ) (a b : DiskState) → m ≤ n → Costs m a b → Costs n a b
 costs_more m n a b le costs = record { faults = costs.faults; taken_up = costs.taken_up; taken = omega (arith, costs.taken, le); limit = costs.limit }
 
+-- the levels stay, first on one disk and then on the next
+stay_then : (tells : Type 0) (a b c : DiskState) (store middle later : Store) → HasSameLevels tells a b store middle → HasSameLevels tells b c middle later → HasSameLevels tells a c store later
+stay_then tells a b c store middle later one two = record {
+  tables = two.tables ∙ one.tables;
+  bytes = λ told k d within. subst (All (λ (level : Tables). bytes_at (extent_of level) c.content ≡ bytes_at (extent_of level) b.content)) one.tables (two.bytes told) k d within ∙ one.bytes told k d within;
+}
+
 pub rose_later : (m n k : ℕ) → m ≤ n → Rose n k → Rose m k
 rose_later m n k le rose = grind (arith, le, rose)
 
@@ -273,6 +289,7 @@ changes_failed {T} tells work then turns next step refuses m n joins a b store m
   agrees = tt;
   sound = tt;
   knows = λ s knows. tt;
+  levels = tt;
   works = λ held told has. tt;
   full = λ held need gap told has e. chain_err work then a.limit held (record { need = need; gap = gap }) (c.full held need gap told has (carried (faults.Full need gap) e));
   images = λ s stands. leaves_as a b (StandsForEither s s) (StandsForEither s (step s)) (c.images s stands) (λ image either. ⊎_elim (λ here. inl here) (λ here. inl here) either);
@@ -337,11 +354,12 @@ module _ (tells : Type 0) (work then : Work) (turns next : Turns) (step : State 
       costs_more (m + sum_by data_size joins + (n + sum_by data_size [])) (m + n + sum_by data_size joins) a c (omega arith)
       (costs_then (m + sum_by data_size joins) (n + sum_by data_size []) a b c one.costs two.costs)
 
-  pub changes_then : {T : Type 0} (result : Result T StoreFault) → Changes tells then next step refuses n [] b c middle later result → Changes tells both (through turns next) step refuses (m + n) joins a c store later result
-  changes_then (Ok x) two = record {
+  pub changes_then : {T : Type 0} (result : Result T StoreFault) → OnOk result (later.slot ≡ middle.slot) → Changes tells then next step refuses n [] b c middle later result → Changes tells both (through turns next) step refuses (m + n) joins a c store later result
+  changes_then (Ok x) slot two = record {
     agrees = two.agrees;
     sound = two.sound ∙ one.sound;
     knows = λ s knows. two.knows s (one.knows s knows);
+    levels = λ same. stay_then tells a b c store middle later (one.levels (sym slot ∙ same)) (two.levels slot);
     works = λ held told has.
         let w = one.works held told has in
         let v = two.works w.0 told w.2 in
@@ -366,10 +384,11 @@ module _ (tells : Type 0) (work then : Work) (turns next : Turns) (step : State 
     cause = λ e. rose_later a.faults b.faults c.faults one.costs.faults (two.cause e);
     costs = costs_both (Ok x) two;
   }
-  changes_then (Err fault) two = record {
+  changes_then (Err fault) slot two = record {
     agrees = tt;
     sound = tt;
     knows = λ s knows. tt;
+    levels = tt;
     works = λ held told has. tt;
     full = λ held need gap told has e. let w = one.works held told has in chain_ok work then a.limit held w.0 w.1 ∙ ap (λ (limit : ℕ). then limit w.0) (sym one.costs.limit) ∙ two.full w.0 need gap told w.2 e;
     images = images_then (Err fault) two;

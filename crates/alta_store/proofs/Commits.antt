@@ -28,6 +28,7 @@ use Rattle.alta_meaning.specs.Working.{entered}
 use Rattle.alta_meaning.proofs.AppendLaws.{opened_appended, opened_appending, stands_appended, stands_appending}
 use Rattle.alta_meaning.proofs.Entering.{after_more}
 use Rattle.alta_meaning.proofs.HeldLaws.{held_appended}
+use Rattle.alta_meaning.proofs.KeptStates.{unmap}
 use Rattle.alta_meaning.proofs.SwitchLaws.{extents_clear}
 use Rattle.alta_meaning.proofs.Untouched.{IsSame, extents_same}
 use Rattle.alta_meaning.proofs.Tests.{equal_test}
@@ -154,6 +155,7 @@ module _ (tells : Type 0) (a : DiskState) (lawful : IsLawful tells a) (store : S
         agrees = tt;
         sound = tt;
         knows = λ s k. tt;
+        levels = tt;
         works = λ held told has. tt;
         full = λ held need gap told has failed. absurd (not_full need gap failed);
         images = λ s stands. either s (turn s) stands (λ told. turns s (knows_of tells a store agrees s told (stands told)));
@@ -290,6 +292,7 @@ module _ (tells : Type 0) (a : DiskState) (lawful : IsLawful tells a) (store : S
             agrees = agrees_after;
             sound = sound_is;
             knows = λ s k. subst (Knows later) (turns s k) (knows s k).0;
+            levels = λ here. record { tables = levels_are; bytes = λ told. unmap (IsSame a.content b.content) extent_of (levels_of store) (same_levels told) };
             works = λ held told has. (entered held entry, refl, has_more told held has);
             full = λ held need gap told has failed. absurd (ok_fails x (StoreFull need gap) failed);
             images = λ s stands. either s (turn s) stands (λ told. turns s (knows_of tells a store agrees s told (stands told)));

@@ -6,7 +6,7 @@ use Rattle.std.proofs.lemmas.Bool.{false≢true}
 use Rattle.std.proofs.lemmas.Grind.{flat_map-append}
 use Rattle.std.proofs.lemmas.List.{drop-map, map-append}
 use Rattle.std.proofs.lemmas.List.Elements.{All-contains_itself, All-filter, All-map, All-weaker}
-use Rattle.alta_layout.specs.Places.{half_start}
+use Rattle.alta_layout.specs.Places.{half_start, other}
 use Rattle.alta_catalog.specs.Knowing.{Follows, Knows as CatalogKnows, KnowsBy, gone_of, levels_of as levels_in, location_of, memory_of, next_of}
 use Rattle.alta_catalog.specs.Replacing.{IsEmptied, IsPrepared, MayReplace, deleted_of, ends_in, level_in, rows_between, stay_from_of, tables_between}
 use Rattle.alta_catalog.specs.Rows.{AreRowsOf, MayBe, documents_left}
@@ -240,6 +240,7 @@ module _ (tells : Type 0) (a b : DiskState) (before now : Store) (levels : NextL
       agrees = tt;
       sound = tt;
       knows = λ s knows. tt;
+      slot = tt;
       works = λ held job told has given. tt;
       full = λ held job need gap told has given e.
           full held job told (may_rewrite tells a before now levels may prepared is_prepared ends listed_is deleted_is next location next_is location_is told held has given) need gap
@@ -268,6 +269,7 @@ put_nothing tells a lawful before now levels may later = record {
   agrees = tt;
   sound = tt;
   knows = λ s knows. tt;
+  slot = tt;
   works = λ held job told has given. tt;
   full = λ held job need gap told has given e. absurd (not_full need gap e);
   passes = passes_start tells a (λ old new. ⊤) lawful (λ c. tt);
@@ -330,7 +332,7 @@ module _ (tells : Type 0) (a b : DiskState) (lawful_a : IsLawful tells a) (lawfu
     (all_documents : AreDocuments (rows_of before)) (done : Rewritten) (later : Store)
     (slot_later : later.slot ≡ done.slot) (root_later : later.root ≡ done.root) (listed_later : later.listed.items ≡ ends.deleted.now) (half_later : later.tail.slot ≡ done.slot)
     (place_later : later.tail.place ≡ half_start done.slot) (job_later : later.job ≡ now.job) (sound_later : later.sound ≡ now.sound)
-    (number_done : done.root.next_number ≡ next) (location_done : done.root.next_location ≡ location)
+    (slot_done : done.slot ≡ other now.slot) (number_done : done.root.next_number ≡ next) (location_done : done.root.next_location ≡ location)
     (rows_done : (table_rows (tables_in done.oldest) ≡ levels.oldest.documents) × (table_rows (tables_in done.newest) ≡ levels.newest.documents))
     (extents_done : done.root.levels.items ≡ map extent_of (tables_in done.oldest) ++ (drop levels.stay_from now.root.levels.items ++ map extent_of (tables_in done.newest)))
     (none_done : levels.oldest.documents ≡ [] → done.oldest ≡ None) (spared : tells → All (IsSame a.content b.content) now.root.levels.items)
@@ -479,6 +481,7 @@ module _ (tells : Type 0) (a b : DiskState) (lawful_a : IsLawful tells a) (lawfu
         agrees = agrees_then;
         sound = sound_later ∙ may.drained.sound;
         knows = knows_then;
+        slot = slot_later ∙ slot_done ∙ ap other may.drained.slot;
         works = λ held job told has given.
             let found = works held job told (may_rewrite tells a before now levels may prepared is_prepared ends listed_is deleted_is next location next_is location_is told held has given) in
             (found.0, found.1.switched_is, found.1.is);

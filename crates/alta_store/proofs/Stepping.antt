@@ -41,7 +41,7 @@ use Rattle.alta_store.specs.declared.fault.StoreFault.{StoreFault}
 use Rattle.alta_store.specs.declared.fault.StoreFault.TheVariants as faults
 use Rattle.alta_store.specs.declared.store.Store.{Store}
 use Rattle.alta_store.proofs.Agreements.{images_have, images_stand, kept}
-use Rattle.alta_store.proofs.Changing.{costs_none, finds_none}
+use Rattle.alta_store.proofs.Changing.{costs_none, finds_none, stay_here}
 use Rattle.alta_store.proofs.Flushing.{ObeysOver, step_reads, two_of}
 use Rattle.alta_store.proofs.Idling.{one_held}
 use Rattle.alta_store.proofs.Joining.{IsJoinOf, ends_as, job_held, switched_job}
@@ -148,6 +148,7 @@ module _ (tells : Type 0) (a : DiskState) (lawful : IsLawful tells a) (store : S
     agrees = agrees_join;
     sound = refl;
     knows = λ s knows. knows;
+    levels = λ here. stay_here tells a store later refl;
     works = works_join;
     full = λ held need gap told has e. absurd (not_ok (faults.Full need gap) e);
     images = λ s stands. leaves_start tells a (StandsForEither s s) lawful (λ image here. inl (images_stand tells a s lawful agrees.settled stands image here));

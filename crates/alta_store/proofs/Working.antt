@@ -1,13 +1,16 @@
 -- A task that puts levels in place of others is a change of the store.
 use Rattle.std.proofs.Common.{◌≡◌, inl, inr, ⊎_elim, ℕ, ◌+◌, List, [], refl, sym, ◌∙◌, ap, subst, arith, Result, Ok, Err}
 use Rattle.std.specs.Prelude.{Option, OnOk}
-use Rattle.std.specs.List.{sum_by}
+use Rattle.std.specs.List.{All, sum_by}
+use Rattle.alta_layout.specs.Places.{other}
+use Rattle.alta_layout.specs.declared.slot.Slot.{Slot}
+use Rattle.alta_layout.specs.declared.slot.Slot.TheVariants.{A, B}
 use Rattle.alta_content.specs.declared.content.Content.{Content}
 use Rattle.alta_disk.specs.Calls.{Reads}
 use Rattle.alta_disk.specs.Disk.{DiskState, IsLawful, LeavesOnly, Same}
 use Rattle.alta_disk.proofs.Moments.{leaves_as, leaves_from, leaves_now, leaves_then, only_same}
 use Rattle.alta_meaning.specs.Holding.{Holding, IsSpaced, IsWell}
-use Rattle.alta_meaning.specs.Opened.{Opened, IsOpened}
+use Rattle.alta_meaning.specs.Opened.{Opened, IsOpened, bytes_at, extent_of}
 use Rattle.alta_meaning.specs.Standing.{StandsFor, StandsForEither, view_of}
 use Rattle.alta_meaning.specs.Views.{View, state_of}
 use Rattle.alta_meaning.specs.Work.{Job}
@@ -22,7 +25,7 @@ use Rattle.alta_rewrite.specs.declared.levels.NextLevels.{NextLevels}
 use Rattle.alta_journal.specs.Journal.{StandsAhead}
 use Rattle.alta_store.specs.Agreement.{Agrees, GoesOnOver, Has, KeepsOpened, IsJobIn, Keeps, MaySpeakOf, MaySpeakOfEither, levels_of}
 use Rattle.alta_catalog.specs.Knowing.{gone_of}
-use Rattle.alta_store.specs.Calls.{Changes, HaveLists, IsNarrow, IsRewrite, IsWork, NoRefusal}
+use Rattle.alta_store.specs.Calls.{Changes, HasSameLevels, HaveLists, IsNarrow, IsRewrite, IsWork, NoRefusal}
 use Rattle.alta_store.specs.Putting.{IsGivenBy, IsPut, MayPut, Puts, ReadsLevels}
 use Rattle.alta_store.specs.declared.fault.StoreFault.{StoreFault}
 use Rattle.alta_store.specs.declared.fault.StoreFault.TheVariants as faults
@@ -34,6 +37,11 @@ use Rattle.alta_store.proofs.Lacking.{narrow_rewrite}
 use Rattle.alta_table.specs.Tables.{Tables}
 
 -- ---- levels put in place of others
+
+-- a slot is not the other one
+not_other : (slot : Slot) → slot ≡ other slot → ⊥
+not_other A same = absurd cc
+not_other B same = absurd cc
 
 -- What work asks of what is held: that it switches the root to these levels, and which join goes on then.
 pub record Switches (limit : ℕ) (work : Work) (now : Store) (levels : NextLevels) (held : Holding) : Type 0 where
@@ -92,6 +100,7 @@ module _ (tells : Type 0) (a b : DiskState) (lawful_a : IsLawful tells a) (lawfu
     agrees = puts.agrees;
     sound = puts.sound;
     knows = puts.knows;
+    levels = λ same. absurd (not_other store.slot (sym same ∙ puts.slot));
     works = λ held told has.
         let to = switches held told has in
         let w = puts.works held to.job told has.is to.given in (
@@ -134,6 +143,7 @@ module _ (tells : Type 0) (a b : DiskState) (lawful_a : IsLawful tells a) (lawfu
     agrees = tt;
     sound = tt;
     knows = λ s knows. tt;
+    levels = tt;
     works = λ held told has. tt;
     full = λ held need gap told has e. let to = switches held told has in to.is ∙ puts.full held to.job need gap told has.is to.given e;
     images = images_put (Err fault) puts;
@@ -188,6 +198,7 @@ changes_read {T} tells work turns bytes joins a b c lawful_a lawful_b store late
   agrees = change.agrees;
   sound = change.sound;
   knows = change.knows;
+  levels = by_result_levels result change;
   works = by_result_works result change;
   full = λ held need gap told has e. ap (λ (limit : ℕ). work limit held) (sym limit) ∙ change.full held need gap told (read_has told held has) e;
   images = λ s stands.
@@ -226,6 +237,12 @@ changes_read {T} tells work turns bytes joins a b c lawful_a lawful_b store late
     read_has : tells → (held : Holding) → Has store held a.content → Has store held b.content
     read_has told held has = subst (Has store held) (sym (reads.content told)) has
 
+    by_result_levels : (r : Result T StoreFault) → Changes tells work turns (λ s. s) NoRefusal bytes [] b c store later r → OnOk r (later.slot ≡ store.slot → HasSameLevels tells a c store later)
+    by_result_levels (Ok x) change = λ same.
+        let stay = change.levels same in
+        record { tables = stay.tables; bytes = λ told. subst (λ (image : List ℕ). All (λ (level : Tables). bytes_at (extent_of level) c.content ≡ bytes_at (extent_of level) image) (levels_of store)) (reads.content told) (stay.bytes told) }
+    by_result_levels (Err fault) change = tt
+
     by_result_works : (r : Result T StoreFault) → Changes tells work turns (λ s. s) NoRefusal bytes [] b c store later r
         → (held : Holding) → tells → Has store held a.content → OnOk r ((then : Holding) × (work a.limit held ≡ Ok then) × Has later then c.content)
     by_result_works (Ok x) change held told has =
@@ -248,6 +265,7 @@ changes_unread {T} {X} tells work turns bytes joins a b lawful_a lawful_b store 
   agrees = tt;
   sound = tt;
   knows = λ s knows. tt;
+  levels = tt;
   works = λ held told has. tt;
   full = λ held need gap told has e. absurd (no_full need gap e);
   images = images_read tells a b lawful_a lawful_b store agrees (sum_by data_size joins) read.reads;

@@ -1,6 +1,6 @@
 -- What a call that changes a store does, in one word.
 use Rattle.std.specs.Prelude.{◌≡◌, ◌⊎◌, ◌<◌, ◌+◌, ◌==◌, ◌&&◌, ◌||◌, nat_le, not, ℕ, Bool, cond, true, false, List, [], length, map, take, Option, Some, None, Result, Ok, Err, OnOk, IfOk, IfErr}
-use Rattle.std.specs.List.{flat_map, sum_by}
+use Rattle.std.specs.List.{All, flat_map, sum_by}
 use Rattle.alta_layout.specs.Places.{half_start}
 use Rattle.alta_catalog.specs.Knowing.{gone_of, memory_of}
 use Rattle.alta_codec.specs.Faults.{Rose}
@@ -12,7 +12,7 @@ use Rattle.alta_meaning.specs.Broken.{IsBrokenAmong}
 use Rattle.alta_meaning.specs.Chain.{◌>>=◌}
 use Rattle.alta_meaning.specs.Holding.{Holding, IsJobOf}
 use Rattle.alta_meaning.specs.Levels.{Level}
-use Rattle.alta_meaning.specs.Opened.{Opened, IsOpened}
+use Rattle.alta_meaning.specs.Opened.{Opened, IsOpened, bytes_at, extent_of}
 use Rattle.alta_meaning.specs.Standing.{StandsFor, StandsForEither, view_of}
 use Rattle.alta_meaning.specs.Switching.{with_entry}
 use Rattle.alta_meaning.specs.Entries.{after_entry}
@@ -214,6 +214,11 @@ pub record FindsFirstDamage {T : Type 0} (refuses : StoreFault → Type 0) (imag
 
 -- ---- a call that changes the store
 
+-- The levels are those of before, and where the disk tells, they have the bytes that they had.
+pub record HasSameLevels (tells : Type 0) (before after : DiskState) (store later : Store) : Type 0 where
+  pub tables : levels_of later ≡ levels_of store
+  pub bytes : tells → All (λ (level : Tables). bytes_at (extent_of level) after.content ≡ bytes_at (extent_of level) before.content) (levels_of store)
+
 -- By this work, which turns what is opened so, and makes this of a state. It refuses by these faults; it reads the lists of these levels,
 -- and at most so many bytes beside them.
 pub record Changes {T : Type 0} (tells : Type 0) (work : ℕ → Holding → Result Holding Full) (turns : ℕ → Opened → Result Opened Full → Type 0) (step : State → State) (refuses : StoreFault → Type 0) (bytes : ℕ) (joins : List Tables) (before after : DiskState) (store later : Store) (result : Result T StoreFault) : Type 0 where
@@ -221,6 +226,8 @@ pub record Changes {T : Type 0} (tells : Type 0) (work : ℕ → Holding → Res
   pub agrees : OnOk result (Agrees tells after later)
   pub sound : OnOk result (is_sound later ≡ is_sound store)
   pub knows : (s : State) → Knows store s → OnOk result (Knows later (step s))
+  -- where the slot that counts is the one of before, the levels have stayed, also on a disk that stands for no state
+  pub levels : OnOk result (later.slot ≡ store.slot → HasSameLevels tells before after store later)
   -- what is held then is what the work makes of it; and a place that is wanting is one that the work wants
   pub works : (held : Holding) → tells → Has store held before.content → OnOk result ((then : Holding) × (work before.limit held ≡ Ok then) × Has later then after.content)
   pub full : (held : Holding) (need gap : ℕ) → tells → Has store held before.content → result ≡ Err (faults.Full need gap) → work before.limit held ≡ Err (record { need = need; gap = gap })

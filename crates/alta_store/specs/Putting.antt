@@ -1,6 +1,7 @@
 -- How levels are read and put in place of others.
 use Rattle.std.specs.Prelude.{◌≡◌, ◌⊎◌, ◌-◌, ◌+◌, ◌≤◌, ⊤, ℕ, Bool, true, false, List, [], ◌++◌, length, Option, None, Result, Ok, Err, OnOk, IfErr}
 use Rattle.std.specs.List.{All, filter, sum_by}
+use Rattle.alta_layout.specs.Places.{other}
 use Rattle.alta_catalog.specs.Knowing.{gone_of, memory_of}
 use Rattle.alta_catalog.specs.Replacing.{IsEmptied, rows_between}
 use Rattle.alta_codec.specs.Faults.{Rose}
@@ -87,6 +88,7 @@ pub record Puts {T : Type 0} (tells : Type 0) (levels : NextLevels) (before afte
   pub agrees : OnOk result (Agrees tells after later)
   pub sound : OnOk result (is_sound later ≡ is_sound store)
   pub knows : (s : State) → Knows store s → OnOk result (Knows later s)
+  pub slot : OnOk result (later.slot ≡ other store.slot)
   pub works : (held : Holding) (job : Option Job) → tells → IsHeld held before.content → IsGivenBy held.view levels
       → OnOk result ((then : Holding) × (switched before.limit held (levels_to_come levels held.view) job ≡ Ok then) × IsHeld then after.content)
   pub full : (held : Holding) (job : Option Job) (need gap : ℕ) → tells → IsHeld held before.content → IsGivenBy held.view levels

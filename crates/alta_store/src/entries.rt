@@ -304,6 +304,7 @@ impl Store {
 
         ensures enters { (step : State → State) → IsStepOf entry.now step self.old → Enters D.tells entry.now step (D.state disk.old) (D.state disk.new) self.old self.new result }
         ensures sound { is_sound self.new ≡ is_sound self.old }
+        ensures slot { OnOk result (self.new.slot ≡ self.old.slot) }
     {
         match apply_entry(self.alloc, &mut self.catalog, entry) {
             Ok(true) => {}

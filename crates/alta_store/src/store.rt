@@ -81,6 +81,13 @@ impl Store {
         self.sound
     }
 
+    /// The slot of the root that counts. Each switch of the root takes the other one: while the slot is the same, the levels are.
+    pub fn slot(&self) -> Slot
+        ensures { result ≡ self.now.slot }
+    {
+        self.slot
+    }
+
     /// What a search looks at. It takes memory for the list of the rows alone, which are shared, but for the last 64 of the newest
     /// documents at most. Fails for want of memory alone.
     pub fn sources(&self) -> Result<Sources<'_>, AllocError>

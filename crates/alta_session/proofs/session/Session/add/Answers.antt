@@ -1,6 +1,5 @@
 use Rattle.std.proofs.Common.{refl, ◌≡◌, ◌≤◌, ℕ, true, false, List, ◌++◌, inl, inr, ap, sym, subst, ◌∙◌, codes, decimal, Err, rules, arith}
 use Rattle.alta_disk.specs.Disk.{LeavesOnly}
-use Rattle.alta_loading.proofs.KeptLaws.{none_kept}
 use Rattle.alta_meaning.specs.Standing.{StandsFor, StandsForEither}
 use Rattle.alta_machine.specs.Changes.{with_added, has_name}
 use Rattle.alta_meaning.specs.Work.{enters}
@@ -17,7 +16,7 @@ use Rattle.alta_machine.specs.Lines.{asks}
 use Rattle.alta_session.proofs.JoiningLaws.{joins_task, lacks_task, reply_by, works_done, works_failed, works_from, works_still}
 use Rattle.alta_session.proofs.AddingLaws.{adding_bad, adding_full, adding_added, added_is_none, leaves_adding, not_refused, room_left}
 use Rattle.alta_session.proofs.AgreementLaws.{knows_state}
-use Rattle.alta_session.proofs.AnsweringLaws.{if_so, same_fault, same_store, looked, answers_from, answers_same, can_from, changed, changed_rests}
+use Rattle.alta_session.proofs.AnsweringLaws.{if_so, same_fault, same_store, looked, answers_from, answers_same, can_from, changed, changed_rests, kept_left}
 use Rattle.alta_session.proofs.ObeyingLaws.{obeyed_works, obeyed_full, narrow_at, add_only}
 use Rattle.alta_session.proofs.TaskLaws.{add_bad, add_full, add_enters}
 use Rattle.alta_session.proofs.session.Session.add.Goals as goal
@@ -36,7 +35,7 @@ returns-in-Ok-clause-answers g c =
     (record {
       sound = (c.requires.can.sound.0, c.in-Ok.ensures.obeys.sound ∙ c.requires.can.sound.1);
       agrees = c.in-Ok.ensures.obeys.agrees;
-      known = none_kept g.D.Disk.tells _ _ _ c.forget.ensures;
+      known = kept_left g.D.Disk.tells (g.D.Disk.state c.args.disk.now) (g.D.Disk.state c.add.new.disk) c.args.self.now.store c.add.new.self _ _ _ c.requires.can.known c.slot-before.ensures c.in-Ok.ensures.obeys.levels c.forget_left.ensures;
       limit = omega (arith, c.requires.can.limit, c.add.ensures.obeys.costs.limit);
     }) c.add.ensures.obeys.costs.faults c.add.ensures.obeys.costs.limit
     (λ m tell agrees.

@@ -1,7 +1,6 @@
 use Rattle.std.proofs.Common.{refl, ◌≡◌, ℕ, false, List, ap, sym, subst, ◌∙◌, Err, rules, arith}
 use Rattle.std.specs.Prelude.{Some}
 use Rattle.alta_disk.specs.Disk.{LeavesOnly}
-use Rattle.alta_loading.proofs.KeptLaws.{none_kept}
 use Rattle.alta_meaning.specs.Standing.{StandsFor, StandsForEither}
 use Rattle.alta_machine.specs.Changes.{has_name, with_deleted, number_of}
 use Rattle.alta_meaning.specs.Work.{enters}
@@ -16,7 +15,7 @@ use Rattle.alta_machine.specs.Command.{deletes}
 use Rattle.alta_machine.specs.Lines.{asks}
 use Rattle.alta_session.proofs.JoiningLaws.{joins_task, lacks_task, reply_by, works_done, works_failed, works_still}
 use Rattle.alta_session.proofs.AgreementLaws.{knows_state}
-use Rattle.alta_session.proofs.AnsweringLaws.{if_so, same_fault, same_store, looked, answers_same, changed, changed_rests}
+use Rattle.alta_session.proofs.AnsweringLaws.{if_so, same_fault, same_store, looked, answers_same, changed, changed_rests, kept_left}
 use Rattle.alta_session.proofs.DeletingLaws.{deleting_bad, deleting_missing, deleting_deleted, leaves_deleting, missing_for, deleted_where, deleted_is_none}
 use Rattle.alta_session.proofs.ObeyingLaws.{obeyed_works, obeyed_full, narrow_at, some_only}
 use Rattle.alta_session.proofs.TaskLaws.{delete_bad, delete_missing, delete_enters}
@@ -38,7 +37,7 @@ returns-in-Ok-clause-answers g c =
     (record {
       sound = (c.requires.sound.0, obeys.sound ∙ c.requires.sound.1);
       agrees = obeys.agrees;
-      known = none_kept g.D.Disk.tells _ _ _ c.forget.ensures;
+      known = kept_left g.D.Disk.tells (g.D.Disk.state c.args.disk.now) (g.D.Disk.state c.delete.new.disk) c.args.self.now.store c.delete.new.self _ _ _ c.requires.known c.slot-before.ensures obeys.levels c.forget_left.ensures;
       limit = omega (arith, c.requires.limit, obeys.costs.limit);
     }) obeys.costs.faults obeys.costs.limit
     (λ m tell agrees.

@@ -1,6 +1,5 @@
 use Rattle.std.proofs.Common.{refl, ◌≡◌, ◌∙◌, ap, codes, Err, arith}
 use Rattle.std.specs.Prelude.{Some}
-use Rattle.alta_loading.proofs.KeptLaws.{none_kept}
 use Rattle.alta_meaning.specs.Work.{merges}
 use Rattle.alta_machine.specs.declared.document.State.{State}
 use Rattle.alta_machine.specs.Machine.{IsRefusal}
@@ -9,7 +8,7 @@ use Rattle.alta_store.specs.declared.fault.StoreFault.TheVariants.{Damaged, Disk
 use Rattle.alta_machine.specs.Command.{merges as asks_merge}
 use Rattle.alta_machine.specs.Lines.{asks}
 use Rattle.alta_session.proofs.JoiningLaws.{failed_done, reply_by, works_done, works_failed}
-use Rattle.alta_session.proofs.AnsweringLaws.{changed, if_so}
+use Rattle.alta_session.proofs.AnsweringLaws.{changed, if_so, kept_left}
 use Rattle.alta_session.proofs.ObeyingLaws.{obeyed_works, obeyed_full, narrow_at, some_only}
 use Rattle.alta_session.proofs.session.Session.merge.Goals as goal
 
@@ -26,7 +25,7 @@ returns-in-Ok-clause-answers g c =
     (record {
       sound = (c.requires.sound.0, obeys.sound ∙ c.requires.sound.1);
       agrees = obeys.agrees;
-      known = none_kept g.D.Disk.tells _ _ _ c.forget.ensures;
+      known = kept_left g.D.Disk.tells (g.D.Disk.state c.args.disk.now) (g.D.Disk.state c.merge.new.disk) c.args.self.now.store c.merge.new.self _ _ _ c.requires.known c.slot-before.ensures obeys.levels c.forget_left.ensures;
       limit = omega (arith, c.requires.limit, obeys.costs.limit);
     }) obeys.costs.faults obeys.costs.limit
     (λ m tell agrees. record {

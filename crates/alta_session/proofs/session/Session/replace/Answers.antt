@@ -1,7 +1,6 @@
 use Rattle.std.proofs.Common.{refl, ◌≡◌, ◌≤◌, ℕ, true, List, ◌++◌, inr, ap, sym, subst, ◌∙◌, codes, decimal, Err, arith}
 use Rattle.std.proofs.lemmas.Bool.{false≢true}
 use Rattle.alta_disk.specs.Disk.{LeavesOnly}
-use Rattle.alta_loading.proofs.KeptLaws.{none_kept}
 use Rattle.alta_meaning.specs.Standing.{StandsFor, StandsForEither}
 use Rattle.alta_machine.specs.Changes.{has_name, with_replaced}
 use Rattle.alta_meaning.specs.Work.{enters}
@@ -17,7 +16,7 @@ use Rattle.alta_machine.specs.Lines.{asks}
 use Rattle.alta_session.proofs.JoiningLaws.{joins_task, lacks_task, reply_by, works_done, works_failed}
 use Rattle.alta_session.proofs.AddingLaws.{adding_full, adding_replaced, leaves_adding, not_refused, number_left, replaced_is_none}
 use Rattle.alta_session.proofs.AgreementLaws.{knows_state}
-use Rattle.alta_session.proofs.AnsweringLaws.{if_so, same_fault, same_store, looked, answers_same, changed, changed_rests}
+use Rattle.alta_session.proofs.AnsweringLaws.{if_so, same_fault, same_store, looked, answers_same, changed, changed_rests, kept_left}
 use Rattle.alta_session.proofs.ObeyingLaws.{obeyed_works, obeyed_full, narrow_at, replace_only}
 use Rattle.alta_session.proofs.TaskLaws.{add_full, add_replaces}
 use Rattle.alta_session.proofs.session.Session.replace.Goals as goal
@@ -34,7 +33,7 @@ returns-in-Ok-clause-answers g c =
     (record {
       sound = (c.requires.can.sound.0, obeys.sound ∙ c.requires.can.sound.1);
       agrees = obeys.agrees;
-      known = none_kept g.D.Disk.tells _ _ _ c.forget.ensures;
+      known = kept_left g.D.Disk.tells (g.D.Disk.state c.args.disk.now) (g.D.Disk.state c.replace.new.disk) c.args.self.now.store c.replace.new.self _ _ _ c.requires.can.known c.slot-before.ensures obeys.levels c.forget_left.ensures;
       limit = omega (arith, c.requires.can.limit, obeys.costs.limit);
     }) obeys.costs.faults obeys.costs.limit
     (λ m tell agrees.

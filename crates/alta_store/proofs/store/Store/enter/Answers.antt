@@ -22,7 +22,7 @@ returns-in-Ok-make_room g c = λ step steps.
     let makes = c.in-Ok-make_room.ensures.makes in
     obeys_entry g.D.Disk.tells entry c.requires.rules step (g.D.Disk.state c.args.disk.now) (g.D.Disk.state c.commit.new.disk) c.args.self.now c.commit.new.self _
     (changes_then g.D.Disk.tells _ _ _ _ step NoRefusal 1 0 _ (g.D.Disk.state c.args.disk.now) (g.D.Disk.state c.make_room.new.disk) (g.D.Disk.state c.commit.new.disk)
-    c.args.self.now c.make_room.new.self c.commit.new.self _ makes (enters_finds entry) _ (c.commit.ensures.enters step (steps c.make_room.new.self intact.state intact.knows (makes.knows intact.state intact.knows))))
+    c.args.self.now c.make_room.new.self c.commit.new.self _ makes (enters_finds entry) _ c.commit.ensures.slot (c.commit.ensures.enters step (steps c.make_room.new.self intact.state intact.knows (makes.knows intact.state intact.knows))))
 
 pub returns : goal.returns
 returns g c = λ step steps.

@@ -34,7 +34,7 @@ returns-clause-puts g c = λ before may.
     (prepared_as c.args.self.now.catalog c.args.levels c.in-Ok.prepared _ _ c.as_slice-oldest.ensures c.as_slice-newest.ensures c.in-Ok.ensures)
     _ c.deref.ensures.value (c.deref-2.ensures.value ∙ c.in-Ok-from_slice.ensures.items ∙ c.deleted.ensures.value) c.bounds-next.result.0 c.bounds-next.result.1 c.bounds-next.ensures.are.0 c.bounds-next.ensures.are.1
     (all_documents before may.agrees.intact) c.in-Ok-rewrite.done _ refl refl (sym c.deref-2.ensures.value) c.tail_of-self.ensures.0 c.tail_of-self.ensures.1 refl refl
-    c.in-Ok-rewrite.ensures.answers.counts.1 c.in-Ok-rewrite.ensures.answers.counts.2 c.in-Ok-rewrite.ensures.answers.rows c.in-Ok-rewrite.ensures.answers.extents c.in-Ok-rewrite.ensures.answers.none c.in-Ok-rewrite.ensures.disk.spared
+    c.in-Ok-rewrite.ensures.answers.counts.0 c.in-Ok-rewrite.ensures.answers.counts.1 c.in-Ok-rewrite.ensures.answers.counts.2 c.in-Ok-rewrite.ensures.answers.rows c.in-Ok-rewrite.ensures.answers.extents c.in-Ok-rewrite.ensures.answers.none c.in-Ok-rewrite.ensures.disk.spared
     c.put_levels.ensures.same c.put_levels.ensures.levels c.put_levels.ensures.gone c.put_levels.ensures.follows c.put_levels.ensures.knows
     refl c.in-Ok-rewrite.ensures.disk.durable c.rewrite.ensures.disk.costs c.rewrite.ensures.disk.images c.rewrite.ensures.held.stands c.in-Ok-rewrite.ensures.held.works c.in-Ok-rewrite.ensures.opened.opened_then c.rewrite.ensures.opened.opened _
 
