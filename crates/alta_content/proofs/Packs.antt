@@ -13,7 +13,8 @@ use Rattle.alta_codec.proofs.ByteLaws.{AreBytes-drop, AreBytes-take}
 use Rattle.alta_codec.proofs.Numerals.{number_read, number_size, reads_number}
 use Rattle.alta_content.specs.TermList.{TermList}
 use Rattle.alta_content.specs.Packed as packed
-use Rattle.alta_content.specs.Packed.{Fits, Packs, Row, gap, gaps_bytes, list_gaps, lists_in, locations_in, leading_number, row_bytes, row_in}
+use Rattle.alta_content.specs.Fronts.{front_locations}
+use Rattle.alta_content.specs.Packed.{AreGaps, Fits, Packs, Row, gap, gaps_bytes, last_behind, list_gaps, lists_in, locations_in, leading_number, row_bytes, row_in}
 
 -- a number that is read from a place on ends within the bytes
 pub read_within : (bytes : List ℕ) (at n e : ℕ) → AreBytes bytes → at ≤ length bytes → number_from 9 0 (take (length bytes - at) (drop at bytes)) ≡ Ok (n, e) → at + e ≤ length bytes
@@ -61,6 +62,76 @@ next_location all (suc n) before bytes l =
     let x = (before + (leading_number bytes).0) % 2 ^ 64 in
     sym (append_assoc all (x ∷ []) (locations_in n x (leading_number bytes).1))
     ∙ ap (λ (m : ℕ). (all ++ x ∷ []) ++ locations_in m x (leading_number bytes).1) (omega arith)
+
+-- the gaps of a list alone are read
+pub are_read : (bytes : List ℕ) (count : ℕ) (xs : List ℕ) → AreGaps bytes count xs → locations_in count 0 bytes ≡ xs
+are_read bytes count xs h =
+    ap (λ (n : ℕ). locations_in n 0 bytes) (sym h.counted)
+    ∙ ap (λ (b : List ℕ). locations_in (length xs) 0 b) (h.spelled ∙ sym (append-nil (gaps_bytes 0 xs)))
+    ∙ gaps_read 0 xs [] (omega arith) h.small
+
+-- ---- lists one behind the other
+
+gaps_append : (before : ℕ) (xs ys : List ℕ) → gaps_bytes before (xs ++ ys) ≡ gaps_bytes before xs ++ gaps_bytes (last_behind before xs) ys
+gaps_append before [] ys = refl
+gaps_append before (x ∷ xs) ys =
+    ap (λ (b : List ℕ). number_bytes (gap before x) ++ b) (gaps_append x xs ys)
+    ∙ sym (append_assoc (number_bytes (gap before x)) (gaps_bytes x xs) (gaps_bytes (last_behind x xs) ys))
+
+last_append : (before : ℕ) (xs ys : List ℕ) → last_behind before (xs ++ ys) ≡ last_behind (last_behind before xs) ys
+last_append before [] ys = refl
+last_append before (x ∷ xs) ys = last_append x xs ys
+
+-- the last of some locations is the same, whatever stands before them
+same_last : (before other : ℕ) (xs : List ℕ) → 0 < length xs → last_behind before xs ≡ last_behind other xs
+same_last before other [] l = absurd (omega (arith, l))
+same_last before other (x ∷ xs) l = refl
+
+-- a list was put behind others
+pub put_gathered : (gaps more bytes : List ℕ) (count m last : ℕ) (xs ys : List ℕ) → AreGaps gaps count xs → last ≡ last_behind 0 xs → AreGaps more m ys → 0 < m
+    → bytes ≡ gaps ++ gaps_bytes last ys
+    → AreGaps bytes (count + m) (xs ++ ys) × (last_behind 0 ys ≡ last_behind 0 (xs ++ ys)) × (locations_in (count + m) 0 bytes ≡ xs ++ ys)
+put_gathered gaps more bytes count m last xs ys a l b some is =
+    let are : AreGaps bytes (count + m) (xs ++ ys) = record {
+      spelled = is ∙ ap (λ (g : List ℕ). g ++ gaps_bytes last ys) a.spelled ∙ ap (λ (n : ℕ). gaps_bytes 0 xs ++ gaps_bytes n ys) l ∙ sym (gaps_append 0 xs ys);
+      counted = length-append xs ys ∙ omega (arith, a.counted, b.counted);
+      small = All-append (λ x. x < 2 ^ 64) xs ys a.small b.small;
+    } in
+    (are, same_last 0 (last_behind 0 xs) ys (omega (arith, b.counted, some)) ∙ sym (last_append 0 xs ys), are_read bytes (count + m) (xs ++ ys) are)
+
+-- each location has a byte at least
+pub gaps_long : (before : ℕ) (xs : List ℕ) → length xs ≤ length (gaps_bytes before xs)
+gaps_long before [] = omega arith
+gaps_long before (x ∷ xs) = omega (arith, gaps_long x xs, (number_size (gap before x)).0, length-append (number_bytes (gap before x)) (gaps_bytes x xs))
+
+-- the first of some gaps is read, and is that of the first location
+first_gap : (x : ℕ) (xs gaps : List ℕ) → gaps ≡ gaps_bytes 0 (x ∷ xs) → x < 2 ^ 64 → leading_number gaps ≡ (x, gaps_bytes x xs)
+first_gap x xs gaps is small =
+    let own : gap 0 x ≡ x = omega (arith, small) in
+    ap leading_number is ∙ number_reads (gap 0 x) (gaps_bytes x xs) (gap_small 0 x) ∙ ap (λ (n : ℕ). (n, gaps_bytes x xs)) own
+
+-- no gaps are those of no locations
+pub no_gaps : (all gaps : List ℕ) (before : ℕ) (xs : List ℕ) → length gaps ≡ 0 → gaps ≡ gaps_bytes 0 xs → all ≡ all ++ gaps_bytes before xs
+no_gaps all gaps before [] none is = sym (append-nil all)
+no_gaps all gaps before (x ∷ xs) none is = absurd (omega (arith, none, ap (λ (b : List ℕ). length b) is, gaps_long 0 (x ∷ xs)))
+
+-- behind another location the first gap is another, and the others are the same
+pub behind_first : (all gaps : List ℕ) (before : ℕ) (xs : List ℕ) → 0 < length gaps → gaps ≡ gaps_bytes 0 xs → All (λ x. x < 2 ^ 64) xs
+    → (all ++ number_bytes (((leading_number gaps).0 + (2 ^ 64 - before)) % 2 ^ 64)) ++ (leading_number gaps).1 ≡ all ++ gaps_bytes before xs
+behind_first all gaps before [] some is small = absurd (omega (arith, some, ap (λ (b : List ℕ). length b) is))
+behind_first all gaps before (x ∷ xs) some is small =
+    ap (λ (r : ℕ × List ℕ). (all ++ number_bytes ((r.0 + (2 ^ 64 - before)) % 2 ^ 64)) ++ r.1) (first_gap x xs gaps is (All-head (λ x. x < 2 ^ 64) x xs small))
+    ∙ append_assoc all (number_bytes (gap before x)) (gaps_bytes x xs)
+
+-- one location more is gone over
+pub next_last : (n before : ℕ) (bytes : List ℕ) → 0 < n
+    → last_behind before (locations_in n before bytes)
+    ≡ last_behind ((before + (leading_number bytes).0) % 2 ^ 64) (locations_in (n - 1) ((before + (leading_number bytes).0) % 2 ^ 64) (leading_number bytes).1)
+next_last zero before bytes l = absurd (omega (arith, l))
+next_last (suc n) before bytes l =
+    let x = (before + (leading_number bytes).0) % 2 ^ 64 in
+    let e : n ≡ suc n - 1 = omega arith in
+    ap (λ (m : ℕ). last_behind x (locations_in m x (leading_number bytes).1)) e
 
 -- ---- rows
 
@@ -142,6 +213,26 @@ packs_rest l ls rows gaps p =
       gaps = ap (λ k. drop k gaps) size ∙ ap (λ g. drop (length (list_gaps l)) g) p.gaps ∙ drop-append_seam (list_gaps l) (flat_map list_gaps ls);
       fit = All-tail Fits l ls p.fit;
     }
+
+-- the gaps of the first list stand in front
+front_packed : (l : TermList) (ls : List TermList) (rows gaps : List ℕ) → Packs rows gaps (l ∷ ls)
+    → ((row_in rows).gaps ≤ length gaps) × AreGaps (take (row_in rows).gaps gaps) (row_in rows).count l.locations
+front_packed l ls rows gaps p =
+    let fits = All-head Fits l ls p.fit in
+    let read = ap row_in p.rows ∙ row_reads l (flat_map row_bytes ls) fits in
+    let size : (row_in rows).gaps ≡ length (list_gaps l) = ap (λ (r : Row). r.gaps) read in (
+      omega (arith, size, ap (λ (x : List ℕ). length x) p.gaps, length-append (list_gaps l) (flat_map list_gaps ls)),
+      record {
+        spelled = ap (λ (k : ℕ). take k gaps) size ∙ ap (λ (g : List ℕ). take (length (list_gaps l)) g) p.gaps ∙ take-append_seam (list_gaps l) (flat_map list_gaps ls);
+        counted = sym (ap (λ (r : Row). r.count) read);
+        small = fits.locations;
+      },
+    )
+
+pub first_packed : (n : ℕ) (rows gaps : List ℕ) → 0 < n → Packs rows gaps (lists_in n rows gaps)
+    → ((row_in rows).gaps ≤ length gaps) × AreGaps (take (row_in rows).gaps gaps) (row_in rows).count (front_locations (lists_in n rows gaps))
+first_packed zero rows gaps l p = absurd (omega (arith, l))
+first_packed (suc n) rows gaps l p = front_packed _ _ rows gaps p
 
 pub packs_skip : (n : ℕ) (rows gaps : List ℕ) → 0 < n → Packs rows gaps (lists_in n rows gaps)
     → Packs (row_in rows).behind (drop (row_in rows).gaps gaps) (lists_in (n - 1) (row_in rows).behind (drop (row_in rows).gaps gaps))

@@ -16,6 +16,11 @@ abbrev pub gaps_bytes : ℕ → List ℕ → List ℕ
 gaps_bytes before [] = []
 gaps_bytes before (x ∷ xs) = number_bytes (gap before x) ++ gaps_bytes x xs
 
+-- the last of the locations behind one, and that one where there are none
+abbrev pub last_behind : ℕ → List ℕ → ℕ
+last_behind before [] = before
+last_behind before (x ∷ xs) = last_behind x xs
+
 -- the gaps of a list
 abbrev pub list_gaps : TermList → List ℕ
 list_gaps l = gaps_bytes 0 l.locations

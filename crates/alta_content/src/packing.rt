@@ -1,10 +1,11 @@
 // Rows and gaps of lists, as bytes.
 // Packed, the lists of a content take about as many bytes as on the disk; lists of numbers took eight a location, and more than a
 // hundred a term. A gap goes around the end of the numbers, so that no list has to rise. The price: each location is spelled and
-// read once more for each content that it passes through.
-ghost use Rattle.std.specs.Prelude.{◌≡◌, ◌≤◌, ◌++◌, drop, take, length, is_ok, if◌then◌else◌, OnOk};
+// read once more for each content that it passes through, unless its list is copied as it is held.
+ghost use Rattle.std.specs.Prelude.{◌≡◌, ◌≤◌, ◌<◌, ◌^◌, ◌++◌, ℕ, List, drop, take, length, is_ok, if◌then◌else◌, OnOk};
+ghost use Rattle.std.specs.List.{All};
 ghost use Rattle.alta_codec.specs.Numbers.{number_bytes};
-ghost use Rattle.alta_content.specs.Packed.{gaps_bytes, locations_in, leading_number, row_in};
+ghost use Rattle.alta_content.specs.Packed.{gaps_bytes, last_behind, locations_in, leading_number, row_in};
 
 use alta_codec::{Loc, get_number, put_number};
 use std::alloc::AllocError;
@@ -135,4 +136,48 @@ pub(crate) fn put_locations_at(
         all.push(location)?;
     }
     Ok(())
+}
+
+// Appends the gaps of locations behind one, from their gaps behind 0: the first number alone differs. Where memory is wanting, nothing
+// is appended.
+pub(crate) fn put_behind(all: &mut Vec<u8>, before: Loc, gaps: &[u8]) -> Result<(), AllocError>
+    ensures { (locations : List ℕ) → gaps.now ≡ gaps_bytes 0 locations → All (λ x. x < 2 ^ 64) locations
+        → all.new.items ≡ (if is_ok result then all.old.items ++ gaps_bytes before locations else all.old.items) }
+{
+    let start = all.len();
+    let done = append_behind(all, before, gaps);
+    if done.is_err() {
+        all.truncate(start);
+    }
+    done
+}
+
+// The same, where on want of memory a part may be appended.
+fn append_behind(all: &mut Vec<u8>, before: Loc, gaps: &[u8]) -> Result<(), AllocError>
+    ensures gaps { (locations : List ℕ) → gaps.now ≡ gaps_bytes 0 locations → All (λ x. x < 2 ^ 64) locations
+        → OnOk result (all.new.items ≡ all.old.items ++ gaps_bytes before locations) }
+    ensures front { take (length all.old.items) all.new.items ≡ all.old.items }
+{
+    if gaps.is_empty() {
+        return Ok(());
+    }
+    let (first, behind) = number_at(gaps, 0);
+    put_number(all, first.wrapping_sub(before))?;
+    let (_first, rest) = gaps.split_at(behind);
+    all.extend_from_slice(rest)?;
+    Ok(())
+}
+
+// The last of so many locations of which these are the gaps, 0 where there are none.
+pub(crate) fn last_in(gaps: &[u8], count: u64) -> Loc
+    ensures { result ≡ last_behind 0 (locations_in count 0 gaps.now) }
+{
+    let mut at = 0;
+    let mut location: u64 = 0;
+    for _ in 0..count {
+        let (gap, behind) = number_at(gaps, at);
+        location = location.wrapping_add(gap);
+        at = behind;
+    }
+    location
 }

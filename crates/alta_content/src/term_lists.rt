@@ -4,6 +4,7 @@ ghost use Rattle.alta_codec.specs.Lists.{Pushes};
 ghost use Rattle.alta_content.specs.Fronts.{front_locations, front_term};
 ghost use Rattle.alta_content.specs.Packed.{AreGaps, list_gaps};
 
+use crate::packed_locations::PackedList;
 use crate::packing::{put_gaps, put_locations_at, put_row, row_at, term_at};
 use crate::passed::give_back;
 use alta_codec::{Len, Loc};
@@ -125,6 +126,25 @@ impl TermLists {
         }
         let (term, _behind) = term_at(&self.rows, self.row);
         Some(term)
+    }
+
+    /// Lends the list of the first term as it is held, one without locations where there is no term.
+    pub fn first_packed(&self) -> PackedList<'_>
+        ensures { AreGaps result.gaps.now result.count (front_locations self.now) }
+    {
+        if self.count == 0 {
+            return PackedList {
+                count: 0,
+                gaps: &[],
+            };
+        }
+        let row = row_at(&self.rows, self.row);
+        let (_passed, left) = self.gaps.split_at(self.gap);
+        let (gaps, _behind) = left.split_at(row.gaps as usize);
+        PackedList {
+            count: row.count,
+            gaps,
+        }
     }
 
     /// Appends the locations of the first term, none where there is no term.

@@ -45,6 +45,12 @@ pub record IsNext (parts : List (List TermList)) (n : ℕ) (next : ℕ) : Type 0
   pub lowest : (k : ℕ) → k < n → is_le (against (next_term parts next) (slice_index_or parts k [])) ≡ true
   pub first : (k : ℕ) → k < next → against (next_term parts next) (slice_index_or parts k []) ≡ Less
 
+-- and no part behind the place `last` begins with it
+pub record IsLast (parts : List (List TermList)) (n : ℕ) (next last : ℕ) : Type 0 where
+  pub from : next ≤ last
+  pub within : last < n
+  pub after : (k : ℕ) → last < k → k < n → begins (next_term parts next) (slice_index_or parts k []) ≡ false
+
 -- the next term, with its locations outside of the spans
 abbrev pub next_list : List Span → List (List TermList) → ℕ → TermList
 next_list spans parts next = record { term = next_term parts next; locations = outside_of spans (flat_map (front_of (next_term parts next)) parts) }
