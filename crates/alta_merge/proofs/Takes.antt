@@ -10,12 +10,15 @@ use Rattle.alta_content.specs.TermList.{TermList}
 use Rattle.alta_content.specs.Joining.{in_order, terms_among}
 use Rattle.alta_content.specs.Lists.{TermsRise, terms_of}
 use Rattle.alta_content.specs.Fronts.{front_locations}
-use Rattle.alta_merge.specs.Fronts.{IsNext, NoneLeft, against, begins, behind, behind_next, front_of, next_term}
+use Rattle.alta_content.specs.Spans.{outside_of}
+use Rattle.alta_content.specs.declared.spans.Span.{Span}
+use Rattle.alta_merge.specs.Fronts.{AreNext, IsNext, NoneLeft, against, begins, behind, behind_next, front_of, next_list, next_term, whole_list}
+use Rattle.alta_merge.specs.declared.fronts.Next.{Next}
 use Rattle.alta_content.proofs.Order.{less_differs}
 use Rattle.alta_content.proofs.Gathered.{all_terms}
 use Rattle.alta_merge.proofs.Taken.{IsLeast, IsLow, own_front, terms_next}
 
-less_begins : (t : List ℕ) (p : List TermList) → against t p ≡ Less → begins t p ≡ false
+pub less_begins : (t : List ℕ) (p : List TermList) → against t p ≡ Less → begins t p ≡ false
 less_begins t [] h = refl
 less_begins t (l ∷ ls) h = less_differs t l.term h
 
@@ -38,6 +41,29 @@ own_fronts parts next h =
     let e : suc next ≡ next + 1 = omega arith in
     sym (first_fronts t parts next h.within h.first ∙ ap (λ b. cond b (front_locations p) []) (own_front p h.some))
     ∙ ap (λ n. flat_map (front_of t) (take n parts)) e
+
+-- ---- where no part from a place on begins with the term
+
+abbrev pub NoneFrom : List ℕ → List (List TermList) → ℕ → Type 0
+NoneFrom t parts n = (k : ℕ) → n ≤ k → k < length parts → begins t (get_or parts k []) ≡ false
+
+-- the others have all its locations
+pub fronts_to : (t : List ℕ) (parts : List (List TermList)) (n : ℕ) → NoneFrom t parts n → flat_map (front_of t) (take n parts) ≡ flat_map (front_of t) parts
+fronts_to t [] zero h = refl
+fronts_to t [] (suc n) h = refl
+fronts_to t (p ∷ ps) zero h =
+    fronts_to t ps zero (λ k a m. h (suc k) (omega arith) (omega (arith, m)))
+    ∙ ap (λ b. cond b (front_locations p) [] ++ flat_map (front_of t) ps) (sym (h 0 (omega arith) (omega arith)))
+fronts_to t (p ∷ ps) (suc n) h = ap (λ l. front_of t p ++ l) (fronts_to t ps n (λ k a m. h (suc k) (omega (arith, a)) (omega (arith, m))))
+
+-- and nothing of it is taken from them
+pub behind_to : (t : List ℕ) (parts : List (List TermList)) (n : ℕ) → NoneFrom t parts n → parts ≡ take n parts ++ map (behind t) (drop n parts)
+behind_to t [] zero h = refl
+behind_to t [] (suc n) h = refl
+behind_to t (p ∷ ps) zero h =
+    ap (λ l. p ∷ l) (behind_to t ps zero (λ k a m. h (suc k) (omega arith) (omega (arith, m))))
+    ∙ ap (λ b. cond b (drop 1 p) p ∷ map (behind t) ps) (sym (h 0 (omega arith) (omega arith)))
+behind_to t (p ∷ ps) (suc n) h = ap (λ l. p ∷ l) (behind_to t ps n (λ k a m. h (suc k) (omega (arith, a)) (omega (arith, m))))
 
 -- what was done from a place on is done from the place before it on
 map_before : {X : Type 0} (f : X → X) (xs : List X) (i : ℕ) (d : X) → i < length xs → set (take (suc i) xs ++ map f (drop (suc i) xs)) i (f (get_or xs i d)) ≡ take i xs ++ map f (drop i xs)
@@ -75,6 +101,18 @@ own_behind parts left next h is =
     ∙ one_behind t parts left next h.within is
     ∙ first_behind t parts next h.within h.first
 
+-- ---- where there is no span
+
+outside_none : (xs : List ℕ) → outside_of [] xs ≡ xs
+outside_none [] = refl
+outside_none (x ∷ xs) = ap (λ l. x ∷ l) (outside_none xs)
+
+pub next_is_whole : (spans : List Span) (parts : List (List TermList)) (next : ℕ) → length spans ≡ 0 → next_list spans parts next ≡ whole_list parts next
+next_is_whole [] parts next none =
+    let build : List ℕ → TermList = λ xs. record { term = next_term parts next; locations = xs } in
+    ap build (outside_none (flat_map (front_of (next_term parts next)) parts))
+next_is_whole (s ∷ ss) parts next none = absurd (omega (arith, none))
+
 -- ---- the next term of all
 
 none_terms : (parts : List (List TermList)) → NoneLeft parts (length parts) → all_terms parts ≡ []
@@ -101,14 +139,14 @@ written n new old a b =
     ap (λ l. take n (new ++ l)) (drop_all (length new) old (omega (arith, a, b))) ∙ ap (take n) (append-nil new) ∙ take_all n new (omega (arith, a))
 
 -- whether there is a next term tells whether one is left
-pub done_is : (parts : List (List TermList)) (next : Option ℕ) (r : Bool) → All TermsRise parts → MatchOption next (NoneLeft parts (length parts)) (IsNext parts (length parts))
+pub done_is : (parts : List (List TermList)) (next : Option Next) (r : Bool) → All TermsRise parts → MatchOption next (NoneLeft parts (length parts)) (λ n. AreNext parts (length parts) n.first n.last)
     → is_some next ≡ not r → (IsTrue r → terms_among parts ≡ []) × (terms_among parts ≡ [] → IsTrue r)
 done_is parts None true s h e = (λ _. no_terms parts h, λ _. refl)
 done_is parts None false s h e = absurd (true≢false (sym e))
 done_is parts (Some next) true s h e = absurd (true≢false e)
 done_is parts (Some next) false s h e = (
   λ f. absurd (true≢false (sym f)),
-  λ none. let more = terms_next (next_term parts next) parts (least_of parts next s h) in
+  λ none. let more = terms_next (next_term parts next.first) parts (least_of parts next.first s h.next) in
       absurd (omega (arith, ap length (sym more ∙ none))),
 )
 

@@ -1,5 +1,5 @@
 -- The lists that come next, each the first of a part.
-use Rattle.std.specs.Prelude.{◌≡◌, ℕ, ◌<◌, nat_lt, Bool, true, false, cond, List, [], ◌∷◌, length, map, drop, slice_index_or}
+use Rattle.std.specs.Prelude.{◌≡◌, ℕ, ◌<◌, ◌≤◌, nat_lt, Bool, true, false, cond, List, [], ◌∷◌, length, map, drop, slice_index_or}
 use Rattle.std.specs.Cmp.Lexicographic.{slice_cmp}
 use Rattle.std.specs.List.{All, flat_map}
 use Rattle.std.specs.Ordering.{nat_cmp, is_le}
@@ -45,11 +45,22 @@ pub record IsNext (parts : List (List TermList)) (n : ℕ) (next : ℕ) : Type 0
   pub lowest : (k : ℕ) → k < n → is_le (against (next_term parts next) (slice_index_or parts k [])) ≡ true
   pub first : (k : ℕ) → k < next → against (next_term parts next) (slice_index_or parts k []) ≡ Less
 
--- and no part behind the place `last` begins with it
-pub record IsLast (parts : List (List TermList)) (n : ℕ) (next last : ℕ) : Type 0 where
-  pub from : next ≤ last
+-- a part has a list left, and none before it has
+pub record IsFirstLeft (parts : List (List TermList)) (i : ℕ) : Type 0 where
+  pub within : i < length parts
+  pub some : 0 < length (slice_index_or parts i [])
+  pub none : NoneLeft parts i
+
+-- of the first so many parts, those at the two places are the first and the last that begin with the least term
+pub record AreNext (parts : List (List TermList)) (n first last : ℕ) : Type 0 where
+  pub next : IsNext parts n first
+  pub from : first ≤ last
   pub within : last < n
-  pub after : (k : ℕ) → last < k → k < n → begins (next_term parts next) (slice_index_or parts k []) ≡ false
+  pub after : (k : ℕ) → last < k → k < n → begins (next_term parts first) (slice_index_or parts k []) ≡ false
+
+-- the next term, with its locations in all parts
+abbrev pub whole_list : List (List TermList) → ℕ → TermList
+whole_list parts next = record { term = next_term parts next; locations = flat_map (front_of (next_term parts next)) parts }
 
 -- the next term, with its locations outside of the spans
 abbrev pub next_list : List Span → List (List TermList) → ℕ → TermList

@@ -3,9 +3,11 @@ ghost use Rattle.std.specs.Prelude.{◌≡◌, ◌↔◌, ℕ, ◌<◌, ◌∷�
 ghost use Rattle.alta_content.specs.Joining.{joined, joined_in, parts_of, rows_in, terms_in};
 ghost use Rattle.alta_content.specs.Parts.{MayJoin};
 
-use crate::fronts::{merge_next, next_of};
+use crate::fronts::{Room, merge_next, next_of};
 use alta_codec::Loc;
-use alta_content::{Content, DocRow, DocRows, Span, TermLists, keep_rows, spans_of};
+use alta_content::{
+    Content, DocRow, DocRows, PackedLocations, Span, TermLists, keep_rows, spans_of,
+};
 use std::alloc::{AllocError, Global};
 use std::marker::Model;
 
@@ -17,8 +19,7 @@ pub struct Job {
     made: TermLists,
     rests: Vec<TermLists>,
     spans: Vec<Span>,
-    // Where the locations of the next term are gathered, the same room for each.
-    room: Vec<Loc>,
+    room: Room,
 }
 
 impl Model for Job {
@@ -98,7 +99,10 @@ impl Job {
             made: TermLists::with_room(alloc, room_of(&parts.rests))?,
             rests: parts.rests,
             spans,
-            room: Vec::new(alloc),
+            room: Room {
+                packed: PackedLocations::new(alloc),
+                locations: Vec::new(alloc),
+            },
         })
     }
 
