@@ -8,4 +8,3 @@ pub mod OldestLaws
 pub mod OpenedLaws
 pub mod RowSteps
 pub mod SpaceLaws
-pub mod StreamGaps

@@ -16,3 +16,5 @@ pub mod Walks
 pub mod Joined
 pub mod DecodedTo
 pub mod BesideRows
+pub mod StreamGaps
+pub mod BlockRows

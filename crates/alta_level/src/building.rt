@@ -1,37 +1,41 @@
 // The segment of a content.
 // `build` uses its content up: the memory of its lists is given back as they are spelled, and head and tables come in front of the
 // streams where these lie. So a flush or a merge holds about as much as the segment has.
-ghost use Rattle.std.specs.Prelude.{◌≡◌, ℕ, ◌++◌, ◌∷◌, [], ◌<◌, ◌≤◌, length, slice_index_or, OnOk, IfOk, flat_map};
+ghost use Rattle.std.specs.Prelude.{◌≡◌, ℕ, List, ◌++◌, ◌∷◌, [], ◌<◌, ◌≤◌, length, slice_index_or, OnOk, IfOk, flat_map};
 ghost use Rattle.std.specs.List.{All};
 ghost use Rattle.alta_codec.specs.Rising.{IsRising};
 ghost use Rattle.alta_table.specs.Documents.{documents_bytes};
 ghost use Rattle.alta_table.specs.Terms.{entry_bytes, terms_bytes};
 ghost use Rattle.alta_content.specs.Lists.{IsContent, terms_of};
+ghost use Rattle.alta_content.specs.Packed.{AreGaps};
 ghost use Rattle.alta_content.specs.declared.content.Content.{Content};
 ghost use Rattle.alta_level.specs.Segments.{list_bytes, row_of, rows_of, segment_bytes};
 
 use crate::writing::put_list;
-use alta_codec::{Len, Loc};
-use alta_content::{Content, TermLists};
+use alta_codec::Len;
+use alta_content::{Content, PackedList, TermLists};
+use alta_postings::Row;
 use alta_table::{Head, put_documents, put_head, put_term};
 use std::alloc::{AllocError, Global};
 
-// Appends the entry of a term behind the one before it, and its stream and summary. `places` is room to work in.
+// Appends the entry of a term behind the one before it, and its stream and summary. `rows` is room to work in.
 fn put_one(
     alloc: Global,
     terms: &mut Vec<u8>,
     streams: &mut Vec<u8>,
-    places: &mut Vec<u64>,
+    rows: &mut Vec<Row>,
     before: &[u8],
     term: &[u8],
-    locations: &[Loc],
+    list: PackedList<'_>,
 ) -> Result<(), AllocError>
-    requires { IsRising locations.now }
-    ensures terms { OnOk result (terms.new.items ≡ terms.old.items ++ entry_bytes before.now (row_of (record { term = term.now; locations = locations.now }))) }
-    ensures streams { OnOk result (streams.new.items ≡ streams.old.items ++ list_bytes (record { term = term.now; locations = locations.now })) }
+    requires { (locations : List ℕ) × IsRising locations × AreGaps list.gaps.now list.count locations }
+    ensures terms { (locations : List ℕ) → IsRising locations → AreGaps list.entry.gaps.now list.entry.count locations
+        → OnOk result (terms.new.items ≡ terms.old.items ++ entry_bytes before.now (row_of (record { term = term.now; locations = locations }))) }
+    ensures streams { (locations : List ℕ) → IsRising locations → AreGaps list.entry.gaps.now list.entry.count locations
+        → OnOk result (streams.new.items ≡ streams.old.items ++ list_bytes (record { term = term.now; locations = locations })) }
 {
-    let size = put_list(alloc, streams, places, locations)?;
-    let count = locations.len() as u64;
+    let count = list.count;
+    let size = put_list(alloc, streams, rows, list)?;
     put_term(terms, before, term, count, size.stream, size.summary)?;
     Ok(())
 }
@@ -49,21 +53,11 @@ fn put_lists(
     ensures streams { OnOk result (streams.new.items ≡ streams.old.items ++ flat_map list_bytes lists) }
 {
     let mut left = lists;
-    let mut places = Vec::new(alloc);
-    let mut locations = Vec::new(alloc);
+    let mut rows = Vec::new(alloc);
     let mut before = Vec::new(alloc);
     while let Some(term) = left.first() {
-        locations.clear();
-        left.put_first(&mut locations)?;
-        put_one(
-            alloc,
-            terms,
-            streams,
-            &mut places,
-            &before,
-            term,
-            &locations,
-        )?;
+        let list = left.first_packed();
+        put_one(alloc, terms, streams, &mut rows, &before, term, list)?;
         before.clear();
         before.extend_from_slice(term)?;
         left.skip();
@@ -100,7 +94,7 @@ fn assemble(
 }
 
 /// The segment of a content: its head, its documents, its terms, then the stream and the summary of each term. It makes
-/// one pass over the lists. The content is used up: the memory of its lists is given back as they are spelled.
+/// one pass over the lists, whose gaps are copied. The content is used up: the memory of its lists is given back as they are spelled.
 pub fn build(alloc: Global, content: Content) -> Result<Vec<u8>, AllocError>
     requires { IsContent content }
     ensures { IfOk result (λ bytes. bytes.items ≡ segment_bytes content) }

@@ -1,7 +1,7 @@
 use Rattle.std.proofs.Common.{◌∷◌, [], ◌++◌, ap, ◌∙◌}
 use Rattle.alta_level.specs.Stored.{Stored}
 use Rattle.alta_postings.specs.Deltas.{decoded_list}
-use Rattle.alta_joins.proofs.StreamGaps.{stream_gaps}
+use Rattle.alta_level.proofs.StreamGaps.{stream_gaps}
 use Rattle.alta_joins.proofs.level.put_row.Goals as goal
 
 pub put_spelled-requires : goal.put_spelled-requires

@@ -1,11 +1,11 @@
--- A stream spells the gaps of its locations.
-use Rattle.std.proofs.Common.{◌≡◌, ℕ, ◌-◌, ◌^◌, ◌<◌, List, [], ◌∷◌, ◌++◌, length, refl, ap, ◌∙◌, arith}
+-- A stream spells the gaps of its locations, and the gaps of a list that rises are its stream.
+use Rattle.std.proofs.Common.{◌≡◌, ℕ, ◌-◌, ◌^◌, ◌<◌, List, [], ◌∷◌, ◌++◌, length, refl, sym, ap, ◌∙◌, arith}
 use Rattle.std.specs.List.{All}
 use Rattle.std.proofs.lemmas.List.Elements.{All-cons, All-nil}
 use Rattle.alta_codec.specs.Numbers.{number_bytes}
 use Rattle.alta_codec.specs.Rising.{IsRising}
 use Rattle.alta_content.specs.Packed.{AreGaps, gap, gaps_bytes}
-use Rattle.alta_postings.specs.Deltas.{stream_bytes}
+use Rattle.alta_postings.specs.Deltas.{Spells, stream_bytes}
 use Rattle.alta_postings.proofs.Above.{RisesAbove, above_from_rising}
 
 same_gaps : (before : ℕ) (xs : List ℕ) → RisesAbove before xs → stream_bytes before xs ≡ gaps_bytes before xs
@@ -23,3 +23,6 @@ pub stream_gaps : (stream list : List ℕ) (count : ℕ) → IsRising list → s
 stream_gaps stream list count rising spelled counted =
     let above = above_from_rising list rising in
     record { spelled = spelled ∙ same_gaps 0 list above; counted = counted; small = are_small 0 list above }
+
+pub gaps_spell : (gaps list : List ℕ) (count : ℕ) → IsRising list → AreGaps gaps count list → Spells gaps list
+gaps_spell gaps list count rising are = record { rising = rising; spelled = are.spelled ∙ sym (same_gaps 0 list (above_from_rising list rising)) }
