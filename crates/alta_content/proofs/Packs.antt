@@ -1,12 +1,12 @@
 -- Laws of packed lists: what is spelled is read.
-use Rattle.std.proofs.Common.{◌≡◌, ℕ, zero, suc, ◌+◌, ◌-◌, ◌%◌, ◌^◌, ◌<◌, ◌≤◌, List, [], ◌∷◌, ◌++◌, length, take, drop, min, refl, sym, ap, ◌∙◌, arith}
+use Rattle.std.proofs.Common.{◌≡◌, ℕ, zero, suc, ◌+◌, ◌-◌, ◌%◌, ◌^◌, ◌<◌, ◌≤◌, List, [], ◌∷◌, ◌++◌, length, take, drop, min, refl, sym, subst, ap, ◌∙◌, arith}
 use Rattle.std.specs.Prelude.{Ok}
 use Rattle.std.specs.List.{All, flat_map}
 use Rattle.std.proofs.Math.Nat.{add-mod-mod, add-mod_right, mod-eq_of_lt}
 use Rattle.std.proofs.Math.Seq.{drop-append_seam, take-append_seam}
 use Rattle.std.proofs.lemmas.Grind.{flat_map-append}
-use Rattle.std.proofs.lemmas.List.{append-nil, append_assoc, drop-append-le, drop-drop, drop_min, length-append, length-drop, length-take}
-use Rattle.std.proofs.lemmas.List.Elements.{All-append, All-cons, All-head, All-nil, All-tail}
+use Rattle.std.proofs.lemmas.List.{append-nil, append_assoc, drop-append-le, drop-drop, drop_min, length-append, length-drop, length-take, take-append-drop}
+use Rattle.std.proofs.lemmas.List.Elements.{All-append, All-cons, All-drop, All-head, All-nil, All-tail, All-take}
 use Rattle.alta_codec.specs.Bytes.{AreBytes}
 use Rattle.alta_codec.specs.Numbers.{number_bytes, number_from}
 use Rattle.alta_codec.proofs.ByteLaws.{AreBytes-drop, AreBytes-take}
@@ -14,7 +14,7 @@ use Rattle.alta_codec.proofs.Numerals.{number_read, number_size, reads_number}
 use Rattle.alta_content.specs.TermList.{TermList}
 use Rattle.alta_content.specs.Packed as packed
 use Rattle.alta_content.specs.Fronts.{front_locations}
-use Rattle.alta_content.specs.Packed.{AreGaps, Fits, Packs, Row, gap, gaps_bytes, last_behind, list_gaps, lists_in, locations_in, leading_number, row_bytes, row_in}
+use Rattle.alta_content.specs.Packed.{AreGaps, Fits, IsGathered, Packs, Row, gap, gaps_bytes, last_behind, list_gaps, lists_in, locations_in, leading_number, row_bytes, row_in}
 
 -- a number that is read from a place on ends within the bytes
 pub read_within : (bytes : List ℕ) (at n e : ℕ) → AreBytes bytes → at ≤ length bytes → number_from 9 0 (take (length bytes - at) (drop at bytes)) ≡ Ok (n, e) → at + e ≤ length bytes
@@ -82,22 +82,48 @@ last_append : (before : ℕ) (xs ys : List ℕ) → last_behind before (xs ++ ys
 last_append before [] ys = refl
 last_append before (x ∷ xs) ys = last_append x xs ys
 
--- the last of some locations is the same, whatever stands before them
-same_last : (before other : ℕ) (xs : List ℕ) → 0 < length xs → last_behind before xs ≡ last_behind other xs
-same_last before other [] l = absurd (omega (arith, l))
-same_last before other (x ∷ xs) l = refl
+last_small : (before : ℕ) (xs : List ℕ) → before < 2 ^ 64 → All (λ x. x < 2 ^ 64) xs → last_behind before xs < 2 ^ 64
+last_small before [] b h = b
+last_small before (x ∷ xs) b h = last_small x xs (All-head (λ x. x < 2 ^ 64) x xs h) (All-tail (λ x. x < 2 ^ 64) x xs h)
+
+-- of locations that were gathered the last is found behind those before the last list
+pub last_gathered : (gaps : List ℕ) (count before last place : ℕ) (xs : List ℕ) → IsGathered gaps count before last place xs
+    → last_behind last (locations_in (count - before) last (drop place gaps)) ≡ last_behind 0 xs
+last_gathered gaps count before last place xs g =
+    let front = take before xs in
+    let rest = drop before xs in
+    let whole : front ++ rest ≡ xs = take-append-drop before xs in
+    let low : last < 2 ^ 64 = subst (λ (n : ℕ). n < 2 ^ 64) (sym g.last_is) (last_small 0 front (omega arith) (All-take (λ x. x < 2 ^ 64) before xs g.are.small)) in
+    let many : count - before ≡ length rest = omega (arith, length-drop before xs, g.are.counted) in
+    let read : locations_in (count - before) last (drop place gaps) ≡ rest =
+    ap (λ (n : ℕ). locations_in n last (drop place gaps)) many
+    ∙ ap (λ (b : List ℕ). locations_in (length rest) last b) (g.behind ∙ sym (append-nil (gaps_bytes last rest)))
+    ∙ gaps_read last rest [] low (All-drop (λ x. x < 2 ^ 64) before xs g.are.small) in
+    ap (last_behind last) read
+    ∙ ap (λ (n : ℕ). last_behind n rest) g.last_is
+    ∙ sym (last_append 0 front rest)
+    ∙ ap (last_behind 0) whole
 
 -- a list was put behind others
-pub put_gathered : (gaps more bytes : List ℕ) (count m last : ℕ) (xs ys : List ℕ) → AreGaps gaps count xs → last ≡ last_behind 0 xs → AreGaps more m ys → 0 < m
+pub put_gathered : (gaps more bytes : List ℕ) (count m last : ℕ) (xs ys : List ℕ) → AreGaps gaps count xs → last ≡ last_behind 0 xs → AreGaps more m ys
     → bytes ≡ gaps ++ gaps_bytes last ys
-    → AreGaps bytes (count + m) (xs ++ ys) × (last_behind 0 ys ≡ last_behind 0 (xs ++ ys)) × (locations_in (count + m) 0 bytes ≡ xs ++ ys)
-put_gathered gaps more bytes count m last xs ys a l b some is =
+    → IsGathered bytes (count + m) count last (length gaps) (xs ++ ys) × (locations_in (count + m) 0 bytes ≡ xs ++ ys)
+put_gathered gaps more bytes count m last xs ys a l b is =
     let are : AreGaps bytes (count + m) (xs ++ ys) = record {
       spelled = is ∙ ap (λ (g : List ℕ). g ++ gaps_bytes last ys) a.spelled ∙ ap (λ (n : ℕ). gaps_bytes 0 xs ++ gaps_bytes n ys) l ∙ sym (gaps_append 0 xs ys);
       counted = length-append xs ys ∙ omega (arith, a.counted, b.counted);
       small = All-append (λ x. x < 2 ^ 64) xs ys a.small b.small;
-    } in
-    (are, same_last 0 (last_behind 0 xs) ys (omega (arith, b.counted, some)) ∙ sym (last_append 0 xs ys), are_read bytes (count + m) (xs ++ ys) are)
+    } in (
+      record {
+        are = are;
+        few = omega arith;
+        last_is = l ∙ ap (last_behind 0) (sym (ap (λ (n : ℕ). take n (xs ++ ys)) (sym a.counted) ∙ take-append_seam xs ys));
+        behind = ap (λ (x : List ℕ). drop (length gaps) x) is ∙ drop-append_seam gaps (gaps_bytes last ys)
+            ∙ ap (gaps_bytes last) (sym (ap (λ (n : ℕ). drop n (xs ++ ys)) (sym a.counted) ∙ drop-append_seam xs ys));
+        within = omega (arith, ap (λ (x : List ℕ). length x) is, length-append gaps (gaps_bytes last ys));
+      },
+      are_read bytes (count + m) (xs ++ ys) are,
+    )
 
 -- each location has a byte at least
 pub gaps_long : (before : ℕ) (xs : List ℕ) → length xs ≤ length (gaps_bytes before xs)

@@ -2,7 +2,7 @@
 ghost use Rattle.std.specs.Prelude.{◌≡◌, ◌++◌, ℕ, List, [], OnOk, OnErr};
 ghost use Rattle.alta_content.specs.Packed.{AreGaps};
 
-use crate::packing::{last_in, put_behind};
+use crate::packing::{last_at, put_behind};
 use alta_codec::Loc;
 use std::alloc::{AllocError, Global};
 use std::marker::Model;
@@ -16,27 +16,31 @@ pub struct PackedList<'a> {
     pub gaps: &'a [u8],
 }
 
-/// Locations of lists, one list behind the other. A list is put by a copy of its gaps, of which the first alone changes. Contracts see
-/// the locations.
+/// Locations of lists, one list behind the other. A list is put by a copy of its gaps, of which the first alone changes, and is read
+/// for its last location once another one comes. Contracts see the locations.
 #[derive(Drop)]
 pub struct PackedLocations {
     // How many locations there are.
     count: u64,
     // Their gaps.
     gaps: Vec<u8>,
+    // How many stand before those of the last list.
+    before: u64,
     // The last of them, 0 where there are none.
     last: Loc,
+    // Where the gaps of the last list begin.
+    place: usize,
 }
 
 impl Model for PackedLocations {
-    ghost use Rattle.std.specs.Prelude.{List, ℕ, ◌≡◌};
-    ghost use Rattle.alta_content.specs.Packed.{AreGaps, last_behind, locations_in};
+    ghost use Rattle.std.specs.Prelude.{List, ℕ};
+    ghost use Rattle.alta_content.specs.Packed.{IsGathered, locations_in};
 
     ghost Value = { List ℕ };
 
     ghost view = { λ p. locations_in p.count 0 p.gaps.items };
 
-    ghost invariant = { λ p. AreGaps p.gaps.items p.count (locations_in p.count 0 p.gaps.items) × (p.last ≡ last_behind 0 (locations_in p.count 0 p.gaps.items)) };
+    ghost invariant = { λ p. IsGathered p.gaps.items p.count p.before p.last p.place (locations_in p.count 0 p.gaps.items) };
 }
 
 impl PackedLocations {
@@ -47,7 +51,9 @@ impl PackedLocations {
         PackedLocations {
             count: 0,
             gaps: Vec::new(alloc),
+            before: 0,
             last: 0,
+            place: 0,
         }
     }
 
@@ -57,7 +63,9 @@ impl PackedLocations {
     {
         self.count = 0;
         self.gaps.clear();
+        self.before = 0;
         self.last = 0;
+        self.place = 0;
     }
 
     /// Adds the locations of a list behind the others. Where memory is wanting, these stay.
@@ -66,12 +74,13 @@ impl PackedLocations {
         ensures put { (locations : List ℕ) → AreGaps list.entry.gaps.now list.entry.count locations → OnOk result (self.new ≡ self.old ++ locations) }
         ensures kept { OnErr result (self.new ≡ self.old) }
     {
-        if list.count == 0 {
-            return Ok(());
-        }
-        put_behind(&mut self.gaps, self.last, list.gaps)?;
+        let last = last_at(&self.gaps, self.place, self.last, self.count - self.before);
+        let place = self.gaps.len();
+        put_behind(&mut self.gaps, last, list.gaps)?;
+        self.before = self.count;
+        self.last = last;
+        self.place = place;
         self.count += list.count;
-        self.last = last_in(list.gaps, list.count);
         Ok(())
     }
 

@@ -168,12 +168,13 @@ fn append_behind(all: &mut Vec<u8>, before: Loc, gaps: &[u8]) -> Result<(), Allo
     Ok(())
 }
 
-// The last of so many locations of which these are the gaps, 0 where there are none.
-pub(crate) fn last_in(gaps: &[u8], count: u64) -> Loc
-    ensures { result ≡ last_behind 0 (locations_in count 0 gaps.now) }
+// The last of so many locations behind one, whose gaps begin at a place; that one where there are none.
+pub(crate) fn last_at(gaps: &[u8], place: usize, before: Loc, count: u64) -> Loc
+    requires { place ≤ length gaps.now }
+    ensures { result ≡ last_behind before (locations_in count before (drop place gaps.now)) }
 {
-    let mut at = 0;
-    let mut location: u64 = 0;
+    let mut at = place;
+    let mut location = before;
     for _ in 0..count {
         let (gap, behind) = number_at(gaps, at);
         location = location.wrapping_add(gap);

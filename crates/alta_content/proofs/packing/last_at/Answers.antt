@@ -1,7 +1,7 @@
 use Rattle.std.proofs.Common.{◌≡◌, ℕ, ◌+◌, ◌-◌, ◌%◌, ◌^◌, List, drop, sym, ap, ◌∙◌, arith}
 use Rattle.alta_content.specs.Packed.{last_behind, locations_in, leading_number}
 use Rattle.alta_content.proofs.Packs.{next_last}
-use Rattle.alta_content.proofs.packing.last_in.Goals as goal
+use Rattle.alta_content.proofs.packing.last_at.Goals as goal
 
 pub loop-preserved : goal.loop-preserved
 loop-preserved c =
