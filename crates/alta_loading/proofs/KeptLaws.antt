@@ -16,6 +16,7 @@ use Rattle.alta_meaning.specs.Opened.{bytes_at, extent_of}
 use Rattle.alta_postings.specs.Deltas.{decoded_list}
 use Rattle.alta_loading.specs.Tested.{AreEndsWhole}
 use Rattle.alta_loading.specs.declared.kept.Ends.{Ends}
+use Rattle.alta_loading.specs.declared.kept.Ends.TheVariants.{Tested, Untested}
 use Rattle.alta_loading.specs.declared.kept.KeptList.{KeptList}
 use Rattle.alta_loading.specs.declared.kept.KeptLists.{KeptLists}
 use Rattle.alta_table.specs.Places.{stream_place}
@@ -27,7 +28,8 @@ use Rattle.alta_table.specs.declared.term.TermRow.{TermRow}
 
 -- the stream and the summary of a row lie among those of all
 row_within : (rows : List TermRow) (row : ℕ) → sum_by data_of (take row rows) + get_or (streams_of rows) row 0 + get_or (summaries_of rows) row 0 ≤ data_bytes rows
-row_within [] row = omega arith
+row_within [] zero = omega arith
+row_within [] (suc row) = omega arith
 row_within (r ∷ rows) zero = omega (arith, sum_by-cons data_of r rows)
 row_within (r ∷ rows) (suc row) = omega (arith, row_within rows row, sum_by-cons data_of r rows, sum_by-cons data_of r (take row rows))
 
