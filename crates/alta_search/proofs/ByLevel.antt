@@ -75,7 +75,7 @@ module _ (tests : List TestLists) where
       ∙ ap (λ ls. test_list (f u) ∷ ls) (each_whole us (All-tail IsCut (f u) (map f us) cut) (All-tail IsSingle (f u) (map f us) one))
 
   -- up to TOP there are all lists with all locations
-  top_lists : (us : List ℕ) → All IsCut (map (lists_at tests) us) → All IsSingle (map (lists_at tests) us) → passed_lists (levels_of tests) us TOP ≡ lists (map (lists_at tests) us)
+  pub top_lists : (us : List ℕ) → All IsCut (map (lists_at tests) us) → All IsSingle (map (lists_at tests) us) → passed_lists (levels_of tests) us TOP ≡ lists (map (lists_at tests) us)
   top_lists [] cut one = refl
   top_lists (u ∷ us) cut one =
       let f = lists_at tests in let c = All-head IsCut (f u) (map f us) cut in let o = All-head IsSingle (f u) (map f us) one in
@@ -88,7 +88,7 @@ module _ (tests : List TestLists) where
         top_lists us (All-tail IsCut (f u) (map f us) cut) (All-tail IsSingle (f u) (map f us) one),
       )
 
-  top_size : (us : List ℕ) → All IsCut (map (lists_at tests) us) → All IsSingle (map (lists_at tests) us) → passed_size (levels_of tests) us TOP ≡ locations (map (lists_at tests) us)
+  pub top_size : (us : List ℕ) → All IsCut (map (lists_at tests) us) → All IsSingle (map (lists_at tests) us) → passed_size (levels_of tests) us TOP ≡ locations (map (lists_at tests) us)
   top_size [] cut one = refl
   top_size (u ∷ us) cut one =
       let f = lists_at tests in let c = All-head IsCut (f u) (map f us) cut in let o = All-head IsSingle (f u) (map f us) one in
@@ -111,7 +111,7 @@ module _ (tests : List TestLists) (uses words against : List ℕ) (u : ℕ) (spl
     (cut_here : All IsCut (map (lists_at tests) (u ∷ words ++ thirds against))) (single_here : All IsSingle (map (lists_at tests) (u ∷ words ++ thirds against)))
     (lead : ℕ) (within : lead < length words)
     (least : (k : ℕ) → k < length words → count_locations (lists_at tests (get_or words lead 0)) ≤ count_locations (lists_at tests (get_or words k 0)))
-    (before after : ℕ) (is : AreWindowSteps (levels_of tests) (u ∷ words ++ thirds against) (length (whole_at tests (get_or words lead 0))) 0 TOP before after) where
+    (before after : ℕ) (is : AreWindowSteps (levels_of tests) (u ∷ words ++ thirds against) (Some (length (whole_at tests (get_or words lead 0)))) 0 TOP before after) where
   abbrev f : ℕ → Cut
   f = lists_at tests
 
@@ -166,7 +166,7 @@ module _ (tests : List TestLists) (uses words against : List ℕ) (u : ℕ) (spl
   by_each : (space : List Placed) (shows : Shows space v) (k : ℕ) (d : Test) → k < length c.words → after ≤ before + lists v.cuts * (2 * length (list_of space (get_or c.words k d)) + 4)
   by_each space shows k d l =
       chain_le after before (lists (map f (u ∷ words ++ ns))) (lists v.cuts) (length (whole_at tests (get_or words lead 0))) (length (list_of space (get_or c.words k d)))
-      (omega (arith, is.moves, ap (λ m. m * (2 * length (whole_at tests (get_or words lead 0)) + 4)) (top_lists tests (u ∷ words ++ ns) cut_here single_here)))
+      (omega (arith, is.moves (length (whole_at tests (get_or words lead 0))) refl, ap (λ m. m * (2 * length (whole_at tests (get_or words lead 0)) + 4)) (top_lists tests (u ∷ words ++ ns) cut_here single_here)))
       (omega (arith, used_lists f uses words against u split, ap lists same))
       (omega (arith, lead_size, least k (omega (arith, l, sized)), size_over f uses words against u split c v seen 0 0 0 seen_is same sized fits cut single space shows k d l))
 

@@ -1,6 +1,6 @@
 -- Walks over the lists of several levels, a level at a time.
 use Rattle.std.proofs.Common.{◌≡◌, ◌⊎◌, ⊎_elim, inl, inr, Bool, cond, ℕ, ◌+◌, ◌*◌, ◌<◌, ◌≤◌, List, [], ◌∷◌, ◌++◌, map, length, get_or, refl, sym, subst, ap, ◌∙◌, arith}
-use Rattle.std.specs.Prelude.{All, Contains, sum_by}
+use Rattle.std.specs.Prelude.{All, Contains, Option, sum_by}
 use Rattle.std.specs.List.{concat, filter}
 use Rattle.std.proofs.lemmas.List.{length-map}
 use Rattle.std.proofs.lemmas.List.Elements.{All-nil, All-cons, All-head, All-tail}
@@ -19,7 +19,7 @@ use Rattle.alta_search.specs.Walks.{PlanView}
 use Rattle.alta_search.specs.Words.{single_list, single_place, single_left}
 use Rattle.alta_search.specs.declared.single_reader.SingleReader.{SingleReader}
 use Rattle.alta_search.proofs.Cutting.{cleft_start, cleft_top, last_in_whole}
-use Rattle.alta_search.proofs.Levels.{whole, having, read, window_more, no_window_steps, counts_start, counts_end, counts_fit}
+use Rattle.alta_search.proofs.Levels.{whole, read, window_more, no_window_steps, counts_start, counts_end, counts_fit}
 
 pub filter_all : {X : Type 0} (P : X → Type 0) (p : X → Bool) (xs : List X) → All P xs → All P (filter p xs)
 filter_all P p [] h = All-nil P
@@ -52,7 +52,7 @@ module _ (lists : ℕ → List (List ℕ)) where
   starts_unmoved (u ∷ us) (r ∷ rs) (h, e) =
       All-cons (λ r. single_place r ≡ first_from (single_list r) 0) r rs (h.unmoved ∙ ap (λ l. first_from l 0) (sym h.reads)) (starts_unmoved us rs e)
 
-  starts_left : (us : List ℕ) (rs : List SingleReader) → Each Starts us rs → sum_by single_left rs ≡ sum_by (λ u. length (concat (lists u))) us
+  pub starts_left : (us : List ℕ) (rs : List SingleReader) → Each Starts us rs → sum_by single_left rs ≡ sum_by (λ u. length (concat (lists u))) us
   starts_left [] [] e = refl
   starts_left [] (r ∷ rs) e = absurd e
   starts_left (u ∷ us) [] e = absurd e
@@ -125,12 +125,12 @@ module _ (lists : ℕ → List (List ℕ)) where
 
   -- ---- the levels one after the other
 
-  module _ (ends : ℕ) (words negated : List ℕ) (n : ℕ) (gone : List ℕ) where
+  module _ (ends : ℕ) (words negated : List ℕ) (leading : Option ℕ) (found gone : List ℕ) where
     abbrev pub all : List ℕ
     all = ends ∷ words ++ negated
 
     abbrev pub left : ℕ → ℕ
-    left place = count_live (having lists ends words negated) gone place
+    left place = count_live found gone place
 
     -- so many were counted up to a place, at which no list goes over
     pub record IsCounting (live low before after : ℕ) : Type 0 where
@@ -138,7 +138,7 @@ module _ (lists : ℕ → List (List ℕ)) where
       pub starts : (low ≡ 0) ⊎ Contains (whole lists ends) low
       pub cleft : All (λ u. IsCleft low (lists u)) all
       pub under : low ≤ TOP
-      pub steps : AreWindowSteps lists all n 0 low before after
+      pub steps : AreWindowSteps lists all leading 0 low before after
 
     each_starts : (us : List ℕ) → All (λ u. IsRising (concat (lists u))) us → All (λ u. IsCleft 0 (lists u)) us
     each_starts [] r = All-nil (λ u. IsCleft 0 (lists u))
@@ -150,38 +150,35 @@ module _ (lists : ℕ → List (List ℕ)) where
     each_ends (u ∷ us) r =
         All-cons (λ u. IsCleft TOP (lists u)) u us (cleft_top (lists u) (All-head (λ u. IsRising (concat (lists u))) u us r)) (each_ends us (All-tail (λ u. IsRising (concat (lists u))) u us r))
 
-    module _ (rises : All (λ u. IsRising (concat (lists u))) all) (before : ℕ) where
-      ends_rise : IsRising (whole lists ends)
-      ends_rise = All-head (λ u. IsRising (concat (lists u))) ends (words ++ negated) rises
-
+    module _ (rises : All (λ u. IsRising (concat (lists u))) all) (found_rises : IsRising found) (before : ℕ) where
       pub counting_start : IsCounting 0 0 before before
       counting_start = record {
         count = omega arith;
         starts = inl refl;
         cleft = each_starts all rises;
         under = omega arith;
-        steps = no_window_steps lists 0 0 (omega arith) all n before;
+        steps = no_window_steps lists 0 0 (omega arith) all leading before;
       }
 
       module _ (live low mid : ℕ) (so_far : IsCounting live low before mid) where
         pub counting_more : (at high more after : ℕ) → at < length (lists ends) → high ≡ pred_of (get_or (lists ends) at []) TOP → low < high
-            → All (λ u. IsCleft high (lists u)) all → more + left (high + 1) ≡ left (low + 1) → AreWindowSteps lists all n low high mid after → IsCounting (live + more) high before after
+            → All (λ u. IsCleft high (lists u)) all → more + left (high + 1) ≡ left (low + 1) → AreWindowSteps lists all leading low high mid after → IsCounting (live + more) high before after
         counting_more at high more after within is up cleft count steps = record {
           count = omega (arith, so_far.count, count);
           starts = inr (subst (Contains (whole lists ends)) (sym is) (last_in_whole (lists ends) at within (omega (arith, is, up))));
           cleft = cleft;
           under = omega (arith, is, pred_of-below (get_or (lists ends) at []) TOP (omega arith));
-          steps = window_more lists all n 0 low high before mid after so_far.steps steps;
+          steps = window_more lists all leading 0 low high before mid after so_far.steps steps;
         }
 
         pub counting_end : (more after : ℕ) → more + left (TOP + 1) ≡ left (low + 1) → live + more ≡ left 0
         counting_end more after count =
-            omega (arith, so_far.count, count, counts_end lists ends words negated ends_rise gone, counts_start lists ends words negated ends_rise gone)
+            omega (arith, so_far.count, count, counts_end found found_rises gone, counts_start found found_rises gone)
 
         pub counting_fits : (high more : ℕ) → more + left (high + 1) ≡ left (low + 1) → live + more ≤ TOP
-        counting_fits high more count = omega (arith, so_far.count, count, counts_fit lists ends words negated ends_rise gone (0 + 1))
+        counting_fits high more count = omega (arith, so_far.count, count, counts_fit found found_rises gone (0 + 1))
 
         -- the steps of a walk that goes up to a place, whatever is left
-        pub counting_steps : (high after : ℕ) → high ≤ TOP → AreWindowSteps lists all n low high mid after → AreWindowSteps lists all n 0 TOP before after
+        pub counting_steps : (high after : ℕ) → high ≤ TOP → AreWindowSteps lists all leading low high mid after → AreWindowSteps lists all leading 0 TOP before after
         counting_steps high after top steps =
-            window_more lists all n 0 high TOP before after after (window_more lists all n 0 low high before mid after so_far.steps steps) (no_window_steps lists high TOP top all n after)
+            window_more lists all leading 0 high TOP before after after (window_more lists all leading 0 low high before mid after so_far.steps steps) (no_window_steps lists high TOP top all leading after)

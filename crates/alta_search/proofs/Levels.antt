@@ -1,6 +1,6 @@
 -- A conjunction over the lists of several levels, cut at places where a level ends.
 use Rattle.std.proofs.Common.{◌≡◌, ◌⊎◌, ⊎_elim, ℕ, zero, suc, ◌+◌, ◌*◌, ◌<◌, ◌≤◌, Bool, true, false, List, [], ◌∷◌, ◌++◌, map, length, get_or, take, refl, sym, subst, ap, ◌∙◌, arith}
-use Rattle.std.specs.Prelude.{Contains, All, sum_by, nat_lt, cond}
+use Rattle.std.specs.Prelude.{Contains, All, Option, Some, None, sum_by, nat_lt, cond}
 use Rattle.std.specs.List.{concat, filter}
 use Rattle.std.proofs.lemmas.Bool.{ltb-true, lt-ltb}
 use Rattle.std.proofs.lemmas.List.{length-map}
@@ -133,7 +133,7 @@ module _ (lists : ℕ → List (List ℕ)) where
     abbrev has : ℕ → Bool
     has u = nat_lt 0 (many u)
 
-    parts_are : (uses : List ℕ) → All (λ u. IsRising (whole u)) uses → All (λ u. IsCleft low (lists u)) uses → All (λ u. IsCleft high (lists u)) uses
+    pub parts_are : (uses : List ℕ) → All (λ u. IsRising (whole u)) uses → All (λ u. IsCleft low (lists u)) uses → All (λ u. IsCleft high (lists u)) uses
         → map part uses ≡ map (window low high) (map whole uses)
     parts_are [] r f t = refl
     parts_are (u ∷ us) r f t =
@@ -181,10 +181,14 @@ module _ (lists : ℕ → List (List ℕ)) where
         omega (arith, sum_by-cons many u us, sum_by-cons (λ u. length (part u)) u us, sum_by-cons (λ u. many u + length (part u)) u us, sum_both us)
 
     -- no step was made
-    pub no_window_steps : (uses : List ℕ) (n before : ℕ) → AreWindowSteps lists uses n low high before before
-    no_window_steps uses n before =
+    pub no_window_steps : (uses : List ℕ) (leading : Option ℕ) (before : ℕ) → AreWindowSteps lists uses leading low high before before
+    no_window_steps uses leading before =
         let more : passed_lists lists uses low ≤ passed_lists lists uses high = omega (arith, sum_lists uses) in
-        record { steps = omega (arith, more, sum_size uses); moves = omega (arith, times (passed_lists lists uses low) (passed_lists lists uses high) (2 * n + 4) more) }
+        record { steps = omega (arith, more, sum_size uses); moves = λ n is. omega (arith, times (passed_lists lists uses low) (passed_lists lists uses high) (2 * n + 4) more) }
+
+    -- a step a list and one a location
+    pub walked_steps : (uses : List ℕ) (before after : ℕ) → after ≤ before + sum_by (λ u. many u + length (part u)) uses → AreWindowSteps lists uses None low high before after
+    walked_steps uses before after h = record { steps = omega (arith, h, sum_both uses, sum_lists uses, sum_size uses); moves = λ n is. absurd cc }
 
     module _ (ends : ℕ) (words negated : List ℕ) where
       abbrev all : List ℕ
@@ -201,7 +205,7 @@ module _ (lists : ℕ → List (List ℕ)) where
       pub window_steps : (lead before after : ℕ) → 0 < many ends → All (λ u. 0 < many u) words → lead < length words
           → after ≤ before + sum_by (λ u. many u + length (part u)) there
           → after ≤ before + sum_by many there + (2 * length (part (get_or words lead 0)) + 2) * (1 + length words + length (filter has negated))
-          → AreWindowSteps lists all (length (whole (get_or words lead 0))) low high before after
+          → AreWindowSteps lists all (Some (length (whole (get_or words lead 0)))) low high before after
       window_steps lead before after some each within by_left by_moves =
           let n = length (whole (get_or words lead 0)) in let m = length (part (get_or words lead 0)) in let l = sum_by many all in let r = 1 + length words + length (filter has negated) in
           let enough : r ≤ sum_by many there =
@@ -214,7 +218,9 @@ module _ (lists : ℕ → List (List ℕ)) where
           let split : (l + passed_lists lists all low) * (2 * n + 4) ≡ l * (2 * n + 4) + passed_lists lists all low * (2 * n + 4) = add-mul l (passed_lists lists all low) (2 * n + 4) in
           record {
             steps = omega (arith, by_left, sum_both there, fewer many, fewer (λ u. length (part u)), sum_lists all, sum_size all);
-            moves = omega (arith, by_moves, fit, most, two, four, split, ap (λ k. k * (2 * n + 4)) (sum_lists all));
+            moves = λ m is. let same : n ≡ m = cc in
+                subst (λ (k : ℕ). after + passed_lists lists all low * (2 * k + 4) ≤ before + passed_lists lists all high * (2 * k + 4)) same
+                (omega (arith, by_moves, fit, most, two, four, split, ap (λ k. k * (2 * n + 4)) (sum_lists all)));
           }
 
       module _ (rises : All (λ u. IsRising (whole u)) all) (from : All (λ u. IsCleft low (lists u)) all) (until : All (λ u. IsCleft high (lists u)) all)
@@ -259,20 +265,19 @@ module _ (lists : ℕ → List (List ℕ)) where
             (read part words k within ∙ ap concat empty))
 
   -- one window behind another
-  pub window_more : (uses : List ℕ) (n low mid high before between after : ℕ) → AreWindowSteps lists uses n low mid before between → AreWindowSteps lists uses n mid high between after
-      → AreWindowSteps lists uses n low high before after
-  window_more uses n low mid high before between after a b = record { steps = omega (arith, a.steps, b.steps); moves = omega (arith, a.moves, b.moves) }
+  pub window_more : (uses : List ℕ) (leading : Option ℕ) (low mid high before between after : ℕ) → AreWindowSteps lists uses leading low mid before between → AreWindowSteps lists uses leading mid high between after
+      → AreWindowSteps lists uses leading low high before after
+  window_more uses leading low mid high before between after a b = record { steps = omega (arith, a.steps, b.steps); moves = λ n is. omega (arith, a.moves n is, b.moves n is) }
 
-  module _ (ends : ℕ) (words negated : List ℕ) (rises : IsRising (whole ends)) (gone : List ℕ) where
-    all_rises : IsRising (having ends words negated)
-    all_rises = having-rises (whole ends) (map whole words) (map whole negated) rises
+-- ---- how many of some ends are left
 
-    -- before the first location there is nothing, and above TOP
-    pub counts_start : live (having ends words negated) gone (0 + 1) ≡ live (having ends words negated) gone 0
-    counts_start = live_same (having ends words negated) gone 0 1 (omega arith) (λ z m h. omega (arith, (element_within (having ends words negated) z all_rises m).0))
+module _ (found : List ℕ) (rises : IsRising found) (gone : List ℕ) where
+  -- before the first location there is nothing, and above TOP
+  pub counts_start : live found gone (0 + 1) ≡ live found gone 0
+  counts_start = live_same found gone 0 1 (omega arith) (λ z m h. omega (arith, (element_within found z rises m).0))
 
-    pub counts_end : live (having ends words negated) gone (TOP + 1) ≡ 0
-    counts_end = live_past (having ends words negated) gone (TOP + 1) all_rises (omega arith)
+  pub counts_end : live found gone (TOP + 1) ≡ 0
+  counts_end = live_past found gone (TOP + 1) rises (omega arith)
 
-    pub counts_fit : (place : ℕ) → live (having ends words negated) gone place ≤ TOP
-    counts_fit place = live_fits (having ends words negated) gone place all_rises
+  pub counts_fit : (place : ℕ) → live found gone place ≤ TOP
+  counts_fit place = live_fits found gone place rises

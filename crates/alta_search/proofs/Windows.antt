@@ -5,9 +5,12 @@ use Rattle.std.proofs.lemmas.Bool.{cases_lt, and_parts, and_from, ltb-true, lt-l
 use Rattle.std.proofs.lemmas.List.Elements.{All-nil, All-cons, All-head, All-tail}
 use Rattle.alta_codec.specs.Rising.{IsRising, pred_of, count_from}
 use Rattle.alta_codec.proofs.Places.{Contains-head, Contains-tail, Contains-cases, not-Contains-nil, pred_of-place, pred_of-below, pred_of-greatest}
-use Rattle.alta_compound.specs.Unions.{RisesAbove, above_from_rising}
+use Rattle.alta_compound.specs.Union.{union, union_of}
+use Rattle.alta_compound.specs.Unions.{RisesAbove, rising_from_above, above_from_rising, union-rises, union-has, union-keeps}
 use Rattle.alta_docread.specs.Kept.{less}
 use Rattle.alta_docread.specs.KeptLaws.{filter-has, filter-keeps, filter-rises, less-has, less-rises}
+use Rattle.alta_lead.specs.Followed.{ends_followed}
+use Rattle.alta_lead.proofs.FollowedLaws.{followed-rises, followed-answers}
 use Rattle.alta_lead.specs.Having.{HasWithin, ends_having}
 use Rattle.alta_lead.specs.HavingLaws.{having-rises, having-answers}
 use Rattle.alta_search.specs.ByLevel.{is_inside, window}
@@ -35,6 +38,16 @@ same_above low (x ∷ xs) (y ∷ ys) (a, t, r) (b, u, s) f g =
 pub same_rising : (xs ys : List ℕ) → IsRising xs → IsRising ys → ((z : ℕ) → Contains xs z → Contains ys z) → ((z : ℕ) → Contains ys z → Contains xs z) → xs ≡ ys
 same_rising xs ys a b f g = same_above 0 xs ys (above_from_rising xs a) (above_from_rising ys b) f g
 
+-- ---- unions of rising lists rise
+
+two_rise : (xs ys : List ℕ) → IsRising xs → IsRising ys → IsRising (union xs ys)
+two_rise xs ys r s = rising_from_above (union xs ys) (union-rises xs ys 0 (above_from_rising xs r) (above_from_rising ys s))
+
+union_rises : (ls : List (List ℕ)) → All IsRising ls → IsRising (union_of ls)
+unfolding union_of
+union_rises [] r = rising_from_above [] tt
+union_rises (l ∷ ls) r = two_rise l (union_of ls) (All-head IsRising l ls r) (union_rises ls (All-tail IsRising l ls r))
+
 -- ---- what a window has
 
 module _ (low high : ℕ) where
@@ -55,6 +68,24 @@ module _ (low high : ℕ) where
   window_is part xs p r f g =
       same_rising part (window low high xs) p (window-rises xs r)
       (λ z m. let k = f z m in window-keeps xs z k.0 k.1 k.2) (λ z m. let k = window-has xs z m in g z k.0 k.1 k.2)
+
+  -- ---- windows of unions
+
+  union_two : (xs ys : List ℕ) → IsRising xs → IsRising ys → union (window low high xs) (window low high ys) ≡ window low high (union xs ys)
+  union_two xs ys r s =
+      window_is (union (window low high xs) (window low high ys)) (union xs ys)
+      (two_rise (window low high xs) (window low high ys) (window-rises xs r) (window-rises ys s)) (two_rise xs ys r s)
+      (λ z m. ⊎_elim (λ n. let k = window-has xs z n in (union-keeps xs ys z (inl k.0), k.1, k.2)) (λ n. let k = window-has ys z n in (union-keeps xs ys z (inr k.0), k.1, k.2))
+      (union-has (window low high xs) (window low high ys) z m))
+      (λ z m a b. union-keeps (window low high xs) (window low high ys) z
+      (⊎_elim (λ n. inl (window-keeps xs z n a b)) (λ n. inr (window-keeps ys z n a b)) (union-has xs ys z m)))
+
+  pub union_window : (ls : List (List ℕ)) → All IsRising ls → union_of (map (window low high) ls) ≡ window low high (union_of ls)
+  unfolding union_of
+  union_window [] r = refl
+  union_window (l ∷ ls) r =
+      ap (union (window low high l)) (union_window ls (All-tail IsRising l ls r))
+      ∙ union_two l (union_of ls) (All-head IsRising l ls r) (union_rises ls (All-tail IsRising l ls r))
 
   -- ---- how many of them another list does not have
 
@@ -84,7 +115,7 @@ module _ (low high : ℕ) where
 
 -- ---- the ends of the documents there
 
-all_into : {X Y : Type 0} (P : X → Type 0) (Q : Y → Type 0) (f : X → Y) (xs : List X) → ((x : X) → P x → Q (f x)) → All P xs → All Q (map f xs)
+pub all_into : {X Y : Type 0} (P : X → Type 0) (Q : Y → Type 0) (f : X → Y) (xs : List X) → ((x : X) → P x → Q (f x)) → All P xs → All Q (map f xs)
 all_into P Q f [] h a = All-nil Q
 all_into P Q f (x ∷ xs) h a = All-cons Q (f x) (map f xs) (h x (All-head P x xs a)) (all_into P Q f xs h (All-tail P x xs a))
 
@@ -143,4 +174,36 @@ module _ (ends : List ℕ) (words negated : List (List ℕ)) (low high : ℕ) (r
         is_end = window-keeps low high ends z a.is_end l up;
         each = all_into (HasWithin (pred_of ends z) z) (HasWithin (pred_of part z) z) (window low high) words (λ w h. within_into z w l up h) a.each;
         none = all_into (λ w. HasWithin (pred_of ends z) z w → ⊥) (λ w. HasWithin (pred_of part z) z w → ⊥) (window low high) negated (λ w h n. h (within_out z w l up n)) a.none;
+      }))
+
+  -- the first word stands before the second there where it does
+  pub followed_window : (first second : List ℕ) → ends_followed part (window low high first) (window low high second) ≡ window low high (ends_followed ends first second)
+  followed_window first second =
+      let here : IsRising part = window-rises low high ends rising in let a = window low high first in let b = window low high second in
+      window_is low high (ends_followed part a b) (ends_followed ends first second) (followed-rises part a b here) (followed-rises ends first second rising)
+      (λ z m. let f = (followed-answers part a b z here).0 m in let k = window-has low high ends z f.is_end in
+      let p = window-has low high first f.place f.there in let q = window-has low high second f.next f.behind in (
+        (followed-answers ends first second z rising).1 (record {
+          is_end = k.0;
+          place = f.place;
+          there = p.0;
+          inside = ⊎_elim (λ under. omega (arith, under, p.1)) (λ more. omega (arith, more, f.inside)) (pred_more z (omega (arith, k.1)) k.2);
+          next = f.next;
+          behind = q.0;
+          later = f.later;
+          within = f.within;
+        }),
+        k.1,
+        k.2,
+      ))
+      (λ z m l up. let f = (followed-answers ends first second z rising).0 m in
+      (followed-answers part a b z here).1 (record {
+        is_end = window-keeps low high ends z f.is_end l up;
+        place = f.place;
+        there = window-keeps low high first f.place f.there (omega (arith, low_before z l, f.inside)) (omega (arith, f.later, f.within, up));
+        inside = omega (arith, pred_less z (omega (arith, l)), f.inside);
+        next = f.next;
+        behind = window-keeps low high second f.next f.behind (omega (arith, low_before z l, f.inside, f.later)) (omega (arith, f.within, up));
+        later = f.later;
+        within = f.within;
       }))

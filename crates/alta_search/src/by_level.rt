@@ -1,16 +1,18 @@
-// How many documents a conjunction finds, level by level.
+// How many documents a query finds, level by level: a conjunction, or what one walk over a few words counts.
 // A document lies in one level, and levels lie one behind the other. So what is found up to the last document of a level is found by
 // the lists up to there alone: each level's lists are walked over side by side, and no move asks in which level it is. A place that
-// some list goes over is no place to cut at, and a disk may have such lists. Where the leading word has few locations, all levels are
-// walked over at once, since each level costs its readers and a first move of them.
-ghost use Rattle.std.specs.Prelude.{◌≡◌, ◌⊎◌, ℕ, ◌+◌, ◌*◌, ◌<◌, ◌≤◌, List, [], ◌∷◌, ◌++◌, map, length, slice_index, slice_index_or, sum_by, All, Contains, IfOk, IsTrue};
+// some list goes over is no place to cut at, and a disk may have such lists. Where the words have few locations, all levels are walked
+// over at once, since each level costs its readers and a first move of them. What is asked of the words chooses the walk over a level,
+// and nothing else.
+ghost use Rattle.std.specs.Prelude.{◌≡◌, ◌⊎◌, ℕ, ◌+◌, ◌*◌, ◌<◌, ◌≤◌, List, [], ◌∷◌, ◌++◌, map, length, slice_index, slice_index_or, sum_by, All, Contains, Some, None, IfOk, IsTrue};
 ghost use Rattle.std.specs.Bool.{OnTrue, OnFalse};
 ghost use Rattle.std.specs.List.{concat, filter};
 ghost use Rattle.alta_codec.specs.declared.location.TheConstants.{TOP};
 ghost use Rattle.alta_codec.specs.Rising.{IsRising, pred_of};
 ghost use Rattle.alta_lead.specs.Having.{ends_having};
 ghost use Rattle.alta_search.specs.Answers.{count_live};
-ghost use Rattle.alta_search.specs.ByLevel.{cut_at, between, IsCleft, levels_of, whole_at, part_at, has_lists, having_all, AreWindowSteps, CountsConjunction};
+ghost use Rattle.alta_search.specs.Asked.{ends_asked};
+ghost use Rattle.alta_search.specs.ByLevel.{cut_at, between, IsCleft, levels_of, whole_at, part_at, has_lists, having_all, ends_at, CanAsk, leading_size, AreWindowSteps, CountsConjunction};
 ghost use Rattle.alta_search.specs.Conjoined.{conjoined_tests};
 ghost use Rattle.alta_search.specs.Lists.{level_list, term_lists};
 ghost use Rattle.alta_search.specs.Made.{MakesReaders};
@@ -18,6 +20,7 @@ ghost use Rattle.alta_search.specs.Met.{IsExact};
 ghost use Rattle.alta_search.specs.Readers.{Each, IsAtStart};
 ghost use Rattle.alta_search.specs.Words.{IsSoundSingle, single_list, single_place, single_left};
 
+use crate::asked_walk::asked_by_kind;
 use crate::leading::{chain_reader, every_third, list_reader, rarest, term_len};
 use crate::lists::{LevelList, Stored, TermLists, TestLists, terms_at};
 use crate::plan_reader::PlanReader;
@@ -30,8 +33,17 @@ use alta_compile::Conjunction;
 use std::alloc::{AllocError, Global};
 use std::sync::ledger::Ledger;
 
-/// Of how many locations a level, taken over all levels, the leading word has more where the levels are walked over one by one.
+/// Of how many locations a level, taken over all levels, the words have more where the levels are walked over one by one.
 const FEW: u64 = 64;
+
+/// What is asked of the words of a document.
+#[derive(Clone, Copy, Drop)]
+pub(crate) enum Asking {
+    /// Each of them and none of the negated words; the word of this index leads.
+    Led(usize),
+    /// The first of two before the second where this is so, else one of them.
+    Walked(bool),
+}
 
 /// The lists of the first of these terms.
 fn levels_in<'a>(terms: &'a [TermLists]) -> &'a [LevelList]
@@ -268,7 +280,7 @@ fn tally_between<L: Ledger>(
 
 /// How many of the documents above one place and up to another have each word and none of the negated words and were not deleted. No
 /// list goes over the places. Where a word has no list between them, no reader is made.
-fn count_between<L: Ledger>(
+fn led_between<L: Ledger>(
     alloc: Global,
     tests: &[TestLists],
     ends: usize,
@@ -288,7 +300,7 @@ fn count_between<L: Ledger>(
     requires starts { (low ≡ 0) ⊎ Contains (whole_at tests.now ends) low }
     requires gone { IsRising gone.now }
     ensures count { IfOk result (λ n. n + count_live (having_all tests.now ends words.now negated.now) gone.now (high + 1) ≡ count_live (having_all tests.now ends words.now negated.now) gone.now (low + 1)) }
-    ensures steps { AreWindowSteps (levels_of tests.now) (ends ∷ words.now ++ negated.now) (length (whole_at tests.now (slice_index words.now lead))) low high steps.old steps.new }
+    ensures steps { AreWindowSteps (levels_of tests.now) (ends ∷ words.now ++ negated.now) (Some (length (whole_at tests.now (slice_index words.now lead)))) low high steps.old steps.new }
 {
     if lists_between(tests, ends, low, high).is_empty() {
         return Ok(0);
@@ -301,6 +313,65 @@ fn count_between<L: Ledger>(
         alloc, tests, ends, words, &against, lead, low, high, gone, steps,
     )?;
     Ok(live)
+}
+
+/// How many documents have the first of two words before the second, or one of the words, and were not deleted, by the lists between
+/// two places alone.
+fn walked_between<L: Ledger>(
+    alloc: Global,
+    followed: bool,
+    tests: &[TestLists],
+    ends: usize,
+    words: &[usize],
+    low: Loc,
+    high: Loc,
+    gone: &[Loc],
+    steps: &mut Steps<L>,
+) -> Result<u64, AllocError>
+    requires pair { IsTrue followed → length words.now ≡ 2 }
+    requires rising { All (λ u. IsRising (whole_at tests.now u)) (ends ∷ words.now) }
+    requires ordered { low ≤ high }
+    requires gone { IsRising gone.now }
+    ensures count { IfOk result (λ n. n ≡ count_live (ends_asked followed (part_at tests.now low high ends) (map (part_at tests.now low high) words.now)) gone.now 0) }
+    ensures steps { AreWindowSteps (levels_of tests.now) (ends ∷ words.now) None low high steps.old steps.new }
+{
+    let ends = level_reader(alloc, lists_between(tests, ends, low, high), steps)?;
+    let words = level_readers(alloc, tests, words, low, high, steps)?;
+    let live = asked_by_kind(alloc, followed, ends, words, gone, steps)?;
+    Ok(live)
+}
+
+/// How many of the documents above one place and up to another are found and were not deleted. No list goes over the places.
+fn count_between<L: Ledger>(
+    alloc: Global,
+    tests: &[TestLists],
+    asking: Asking,
+    ends: usize,
+    words: &[usize],
+    negated: &[usize],
+    low: Loc,
+    high: Loc,
+    gone: &[Loc],
+    steps: &mut Steps<L>,
+) -> Result<u64, AllocError>
+    requires can { CanAsk asking words.now negated.now }
+    requires rising { All (λ u. IsRising (whole_at tests.now u)) (ends ∷ words.now ++ negated.now) }
+    requires ordered { low ≤ high }
+    requires from { All (λ u. IsCleft low (levels_of tests.now u)) (ends ∷ words.now ++ negated.now) }
+    requires until { All (λ u. IsCleft high (levels_of tests.now u)) (ends ∷ words.now ++ negated.now) }
+    requires starts { (low ≡ 0) ⊎ Contains (whole_at tests.now ends) low }
+    requires gone { IsRising gone.now }
+    ensures count { IfOk result (λ n. n + count_live (ends_at tests.now asking ends words.now negated.now) gone.now (high + 1) ≡ count_live (ends_at tests.now asking ends words.now negated.now) gone.now (low + 1)) }
+    ensures steps { AreWindowSteps (levels_of tests.now) (ends ∷ words.now ++ negated.now) (leading_size tests.now asking words.now) low high steps.old steps.new }
+{
+    match asking {
+        Asking::Led(lead) => led_between(
+            alloc, tests, ends, words, negated, lead, low, high, gone, steps,
+        ),
+        Asking::Walked(followed) => walked_between(
+            alloc, followed, tests, ends, words, low, high, gone, steps,
+        ),
+    }
 }
 
 /// Whether a place lies above another, and no list of these tests goes over it.
@@ -328,50 +399,67 @@ fn ends_there(
     are_cleft(tests, negated, high)
 }
 
-/// At the ends of how many of these levels it is cut, where the leading word has so many locations: of all of them or of none.
+/// At the ends of how many of these levels it is cut, where the words have so many locations: of all but the last, or of none.
 fn cuts(levels: &[LevelList], len: u64) -> usize
     ensures { result ≤ length levels.now }
 {
     if len / FEW > levels.len() as u64 {
-        levels.len()
+        levels.len().saturating_sub(1)
     } else {
         0
     }
 }
 
-/// How many documents have each word and none of the negated words and were not deleted, by the indexes of the tests. The word of
-/// the index `lead` leads.
-fn count_levels<L: Ledger>(
+/// How many locations a walk goes by: those of the rarest word where each is asked for, else those of all words together, or as many
+/// as the number holds.
+fn walked_len(tests: &[TestLists], asking: Asking, words: &[usize]) -> u64
+    requires { All (λ u. IsRising (whole_at tests.now u)) words.now }
+{
+    let mut rarest = u64::MAX;
+    let mut sum: u64 = 0;
+    for index in words {
+        let len = term_len(levels_at(tests, *index));
+        rarest = rarest.min(len);
+        sum = sum.saturating_add(len);
+    }
+    match asking {
+        Asking::Walked(false) => sum,
+        Asking::Led(_) | Asking::Walked(true) => rarest,
+    }
+}
+
+/// How many documents are found and were not deleted, by the indexes of the tests and what is asked of the words.
+pub(crate) fn count_levels<L: Ledger>(
     alloc: Global,
     tests: &[TestLists],
+    asking: Asking,
     ends: usize,
     words: &[usize],
     negated: &[usize],
-    lead: usize,
     gone: &[Loc],
     steps: &mut Steps<L>,
 ) -> Result<u64, AllocError>
-    requires lead { lead < length words.now }
+    requires can { CanAsk asking words.now negated.now }
     requires rising { All (λ u. IsRising (whole_at tests.now u)) (ends ∷ words.now ++ negated.now) }
     requires gone { IsRising gone.now }
-    ensures count { IfOk result (λ n. n ≡ count_live (having_all tests.now ends words.now negated.now) gone.now 0) }
-    ensures steps { AreWindowSteps (levels_of tests.now) (ends ∷ words.now ++ negated.now) (length (whole_at tests.now (slice_index words.now lead))) 0 TOP steps.old steps.new }
+    ensures count { IfOk result (λ n. n ≡ count_live (ends_at tests.now asking ends words.now negated.now) gone.now 0) }
+    ensures steps { AreWindowSteps (levels_of tests.now) (ends ∷ words.now ++ negated.now) (leading_size tests.now asking words.now) 0 TOP steps.old steps.new }
 {
     let levels = levels_at(tests, ends);
-    let len = term_len(levels_at(tests, words[lead]));
+    let len = walked_len(tests, asking, words);
     let mut live = 0;
     let mut low = 0;
     for at in 0..cuts(levels, len) {
         let high = last_at(levels, at);
         if ends_there(tests, ends, words, negated, low, high) {
             live += count_between(
-                alloc, tests, ends, words, negated, lead, low, high, gone, steps,
+                alloc, tests, asking, ends, words, negated, low, high, gone, steps,
             )?;
             low = high;
         }
     }
     let rest = count_between(
-        alloc, tests, ends, words, negated, lead, low, TOP, gone, steps,
+        alloc, tests, asking, ends, words, negated, low, TOP, gone, steps,
     )?;
     Ok(live + rest)
 }
@@ -397,10 +485,10 @@ pub(crate) fn count_by_level<L: Ledger>(
     let live = count_levels(
         alloc,
         tests,
+        Asking::Led(lead),
         ends[0],
         words,
         &negated,
-        lead,
         snapshot.gone(),
         steps,
     )?;

@@ -68,13 +68,13 @@ returns g c =
           ∙ ap (λ l. count_live l c.gone.result.now 0) (conjoined c.uses.result.0.now uses words against u split c.args.found.now c.args.snapshot.now c.uses.ensures.cuts (omega (arith, c.split_at-2.ensures.front_len, c.len.ensures)) c.requires.tests
           (subst (All IsCut) c.uses.ensures.cuts c.uses.ensures.cut) (subst (All IsSingle) c.uses.ensures.cuts (c.uses.ensures.single c.requires.exact)) cut_here single_here
           c.rarest-lead.result c.rarest-lead.ensures.within c.rarest-lead.ensures.least c.args.steps.now c.count_levels.new.steps
-          (subst (λ ns. AreWindowSteps (levels_of c.uses.result.0.now) (u ∷ words ++ ns) (length (whole_at c.uses.result.0.now (get_or words c.rarest-lead.result 0))) 0 TOP c.args.steps.now c.count_levels.new.steps)
+          (subst (λ ns. AreWindowSteps (levels_of c.uses.result.0.now) (u ∷ words ++ ns) (Some (length (whole_at c.uses.result.0.now (get_or words c.rarest-lead.result 0)))) 0 TOP c.args.steps.now c.count_levels.new.steps)
           (c.deref.ensures.value ∙ c.in_ok-negated.ensures) c.count_levels.ensures.steps) space shows)
           ∙ ap (λ gone. count_live (ends_having (ends_of space) (map (list_of space) c.args.found.now.words) (map (list_of space) c.args.found.now.negated)) gone 0) c.gone.ensures.value;
       steps = conjoined_steps c.uses.result.0.now uses words against u split c.args.found.now c.args.snapshot.now c.uses.ensures.cuts (omega (arith, c.split_at-2.ensures.front_len, c.len.ensures)) c.requires.tests
           (subst (All IsCut) c.uses.ensures.cuts c.uses.ensures.cut) (subst (All IsSingle) c.uses.ensures.cuts (c.uses.ensures.single c.requires.exact)) cut_here single_here
           c.rarest-lead.result c.rarest-lead.ensures.within c.rarest-lead.ensures.least c.args.steps.now c.count_levels.new.steps
-          (subst (λ ns. AreWindowSteps (levels_of c.uses.result.0.now) (u ∷ words ++ ns) (length (whole_at c.uses.result.0.now (get_or words c.rarest-lead.result 0))) 0 TOP c.args.steps.now c.count_levels.new.steps)
+          (subst (λ ns. AreWindowSteps (levels_of c.uses.result.0.now) (u ∷ words ++ ns) (Some (length (whole_at c.uses.result.0.now (get_or words c.rarest-lead.result 0)))) 0 TOP c.args.steps.now c.count_levels.new.steps)
           (c.deref.ensures.value ∙ c.in_ok-negated.ensures) c.count_levels.ensures.steps);
     }
 
@@ -92,7 +92,7 @@ returns-in_err-live g c =
       steps = conjoined_steps c.uses.result.0.now uses words against u split c.args.found.now c.args.snapshot.now c.uses.ensures.cuts (omega (arith, c.split_at-2.ensures.front_len, c.len.ensures)) c.requires.tests
           (subst (All IsCut) c.uses.ensures.cuts c.uses.ensures.cut) (subst (All IsSingle) c.uses.ensures.cuts (c.uses.ensures.single c.requires.exact)) cut_here single_here
           c.rarest-lead.result c.rarest-lead.ensures.within c.rarest-lead.ensures.least c.args.steps.now c.count_levels.new.steps
-          (subst (λ ns. AreWindowSteps (levels_of c.uses.result.0.now) (u ∷ words ++ ns) (length (whole_at c.uses.result.0.now (get_or words c.rarest-lead.result 0))) 0 TOP c.args.steps.now c.count_levels.new.steps)
+          (subst (λ ns. AreWindowSteps (levels_of c.uses.result.0.now) (u ∷ words ++ ns) (Some (length (whole_at c.uses.result.0.now (get_or words c.rarest-lead.result 0)))) 0 TOP c.args.steps.now c.count_levels.new.steps)
           (c.deref.ensures.value ∙ c.in_ok-negated.ensures) c.count_levels.ensures.steps);
     }
 

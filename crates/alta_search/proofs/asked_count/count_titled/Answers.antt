@@ -6,7 +6,7 @@ use Rattle.alta_machine.specs.Patterns.{title_end}
 use Rattle.alta_search.specs.Answers.{count_live}
 use Rattle.alta_search.specs.Lists.{test_list, test_at, lists_at}
 use Rattle.alta_search.specs.Plans.{lists, locations}
-use Rattle.alta_search.proofs.asked_walk.count_titled.Goals as goal
+use Rattle.alta_search.proofs.asked_count.count_titled.Goals as goal
 
 pub followed_uses-requires-clause-three : goal.followed_uses-requires-clause-three
 followed_uses-requires-clause-three g c =

@@ -6,7 +6,7 @@ use Rattle.alta_search.specs.Lists.{test_list, lists_at, IsCut}
 use Rattle.alta_search.specs.Met.{IsSingle}
 use Rattle.alta_search.specs.Plans.{lists, locations}
 use Rattle.alta_search.proofs.Titled.{first_use}
-use Rattle.alta_search.proofs.asked_walk.followed_uses.Goals as goal
+use Rattle.alta_search.proofs.asked_count.followed_uses.Goals as goal
 
 pub asked_lists-requires-clause-pair : goal.asked_lists-requires-clause-pair
 asked_lists-requires-clause-pair g c = λ _.

@@ -6,7 +6,7 @@ use Rattle.alta_search.specs.Lists.{test_list, lists_at, IsCut, count_lists, cou
 use Rattle.alta_search.specs.Met.{IsSingle}
 use Rattle.alta_search.specs.Plans.{lists, locations}
 use Rattle.alta_search.proofs.Either.{used_all, used_sum}
-use Rattle.alta_search.proofs.asked_walk.any_of_uses.Goals as goal
+use Rattle.alta_search.proofs.asked_count.any_of_uses.Goals as goal
 
 pub asked_lists-requires-clause-pair : goal.asked_lists-requires-clause-pair
 asked_lists-requires-clause-pair g c = λ yes. absurd cc

@@ -7,7 +7,7 @@ use Rattle.alta_search.specs.Either.{either_tests, seconds}
 use Rattle.alta_search.specs.Lists.{test_list, test_at, lists_at}
 use Rattle.alta_search.specs.Plans.{lists, locations}
 use Rattle.alta_search.proofs.Either.{used_words, used_ends}
-use Rattle.alta_search.proofs.asked_walk.count_either.Goals as goal
+use Rattle.alta_search.proofs.asked_count.count_either.Goals as goal
 
 pub any_of_uses-requires-clause-some : goal.any_of_uses-requires-clause-some
 any_of_uses-requires-clause-some g c =

@@ -1,7 +1,7 @@
 use Rattle.std.proofs.Common.{length, ap, arith}
 use Rattle.std.proofs.lemmas.List.{length-map}
 use Rattle.alta_search.specs.Lists.{test_at}
-use Rattle.alta_search.proofs.asked_walk.has_few_words.Goals as goal
+use Rattle.alta_search.proofs.asked_count.has_few_words.Goals as goal
 
 pub returns : goal.returns
 returns c = λ _.

@@ -2,7 +2,7 @@ use Rattle.std.proofs.Common.{◌+◌, ◌*◌, ◌∷◌, [], ◌++◌, get_or,
 use Rattle.std.proofs.lemmas.List.{take_more}
 use Rattle.alta_search.specs.Either.{seconds}
 use Rattle.alta_search.proofs.Either.{second_at, seconds_short}
-use Rattle.alta_search.proofs.asked_walk.every_second.Goals as goal
+use Rattle.alta_search.proofs.asked_count.every_second.Goals as goal
 
 pub returns : goal.returns
 returns c =
