@@ -8,7 +8,6 @@ use Rattle.alta_machine.specs.declared.document.Document.{Document}
 use Rattle.alta_machine.specs.declared.test.Test.{Test}
 use Rattle.alta_machine.specs.declared.test.Test.TheVariants.{Is, Begins}
 use Rattle.alta_machine.specs.Ranked.{ranked}
-use Rattle.alta_machine.specs.declared.scored.Scored.{Scored}
 use Rattle.alta_machine.specs.declared.usage.Use.{Use}
 use Rattle.alta_search.specs.Answers.{coming}
 use Rattle.alta_search.specs.Plans.{lists, locations}

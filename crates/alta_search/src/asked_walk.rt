@@ -40,6 +40,28 @@ fn tally_asked<E: BackReader, R: BackReader, L: Ledger>(
     }
 }
 
+/// The same by readers of one's own.
+pub(crate) fn asked_words<E: BackReader + Drop, R: BackReader + Drop, L: Ledger>(
+    followed: bool,
+    ends: E,
+    words: Vec<R>,
+    gone: &[Loc],
+    steps: &mut Steps<L>,
+) -> u64
+    requires ends { E.sound ends }
+    requires words { All R.sound words.items }
+    requires pair { IsTrue followed → length words.items ≡ 2 }
+    requires ends_unmoved { E.location ends ≡ first_from (E.list ends) 0 }
+    requires words_unmoved { All (λ r. R.location r ≡ first_from (R.list r) 0) words.items }
+    requires gone { IsRising gone.now }
+    ensures count { result ≡ count_live (ends_asked followed (E.list ends) (map R.list words.items)) gone.now 0 }
+    ensures steps { steps.new ≤ steps.old + (E.left ends + sum_by R.left words.items) }
+{
+    let mut ends = EndReader::new(ends);
+    let mut words = words;
+    tally_asked(followed, &mut ends, &mut words, gone, steps)
+}
+
 /// The same, where the ends stand in memory and the words are coded lists, so that no move asks how its list is read.
 fn asked_coded<'a, L: Ledger>(
     alloc: Global,
@@ -59,53 +81,8 @@ fn asked_coded<'a, L: Ledger>(
     ensures count { IfOk result (λ n. n ≡ count_live (ends_asked followed (single_list (Plain ends.entry)) (map single_list words.entry.items)) gone.now 0) }
     ensures steps { steps.new ≤ steps.old + (single_left (Plain ends.entry) + sum_by single_left words.entry.items) }
 {
-    let mut words = all_coded(alloc, words)?;
-    let mut ends = EndReader::new(ends);
-    Ok(tally_asked(followed, &mut ends, &mut words, gone, steps))
-}
-
-/// The same, whatever lists the words are.
-fn asked_plain<'a, L: Ledger>(
-    followed: bool,
-    ends: PlainReader<'a>,
-    words: Vec<SingleReader<'a>>,
-    gone: &[Loc],
-    steps: &mut Steps<L>,
-) -> u64
-    requires ends { IsSoundSingle (Plain ends) }
-    requires words { All IsSoundSingle words.items }
-    requires pair { IsTrue followed → length words.items ≡ 2 }
-    requires ends_unmoved { IsUnmovedSingle (Plain ends) }
-    requires words_unmoved { All IsUnmovedSingle words.items }
-    requires gone { IsRising gone.now }
-    ensures count { result ≡ count_live (ends_asked followed (single_list (Plain ends.entry)) (map single_list words.entry.items)) gone.now 0 }
-    ensures steps { steps.new ≤ steps.old + (single_left (Plain ends.entry) + sum_by single_left words.entry.items) }
-{
-    let mut ends = EndReader::new(ends);
-    let mut words = words;
-    tally_asked(followed, &mut ends, &mut words, gone, steps)
-}
-
-/// The same, whatever lists the ends and the words are.
-fn asked_single<'a, L: Ledger>(
-    followed: bool,
-    ends: SingleReader<'a>,
-    words: Vec<SingleReader<'a>>,
-    gone: &[Loc],
-    steps: &mut Steps<L>,
-) -> u64
-    requires ends { IsSoundSingle ends }
-    requires words { All IsSoundSingle words.items }
-    requires pair { IsTrue followed → length words.items ≡ 2 }
-    requires ends_unmoved { IsUnmovedSingle ends }
-    requires words_unmoved { All IsUnmovedSingle words.items }
-    requires gone { IsRising gone.now }
-    ensures count { result ≡ count_live (ends_asked followed (single_list ends.entry) (map single_list words.entry.items)) gone.now 0 }
-    ensures steps { steps.new ≤ steps.old + (single_left ends.entry + sum_by single_left words.entry.items) }
-{
-    let mut ends = EndReader::new(ends);
-    let mut words = words;
-    tally_asked(followed, &mut ends, &mut words, gone, steps)
+    let words = all_coded(alloc, words)?;
+    Ok(asked_words(followed, ends, words, gone, steps))
 }
 
 /// The same, by a walk for the kinds of these readers.
@@ -131,9 +108,9 @@ pub(crate) fn asked_by_kind<'a, L: Ledger>(
             if are_coded(&words) {
                 asked_coded(alloc, followed, plain, words, gone, steps)
             } else {
-                Ok(asked_plain(followed, plain, words, gone, steps))
+                Ok(asked_words(followed, plain, words, gone, steps))
             }
         }
-        other => Ok(asked_single(followed, other, words, gone, steps)),
+        other => Ok(asked_words(followed, other, words, gone, steps)),
     }
 }

@@ -9,61 +9,19 @@ ghost use Rattle.alta_search.specs.Lists.{test_list, lists_at, IsCut};
 ghost use Rattle.alta_search.specs.Plans.{lists, locations};
 ghost use Rattle.alta_search.specs.View.{Shows};
 ghost use Rattle.alta_search.specs.Words.{IsSoundReader, reader_list, reader_left, IsUnmovedReader};
-ghost use Rattle.alta_search.specs.declared.test_reader.TestReader.TheVariants.{Plain};
 ghost use Rattle.alta_search.specs.Walked.{WalksOver};
 
+use crate::asked_walk::asked_words;
 use crate::lists::{TestLists, terms_at};
 use crate::readers::{reader, readers};
 use crate::section::Section;
 use crate::test_reader::TestReader;
 use alta_codec::{Loc, Steps};
-use alta_compound::EndReader;
-use alta_lead::tally_any_of;
-use alta_words::PlainReader;
 use std::alloc::{AllocError, Global};
 use std::sync::ledger::Ledger;
 
-/// How many documents have a location of one of the tests and were not deleted. The ends stand in memory. No reader was moved.
-fn stem_plain<'a, L: Ledger>(
-    ends: PlainReader<'a>,
-    words: Vec<TestReader<'a>>,
-    gone: &[Loc],
-    steps: &mut Steps<L>,
-) -> u64
-    requires ends { IsSoundReader (Plain ends) }
-    requires words { All IsSoundReader words.items }
-    requires ends_unmoved { IsUnmovedReader (Plain ends) }
-    requires words_unmoved { All IsUnmovedReader words.items }
-    requires gone { IsRising gone.now }
-    ensures count { result ≡ count_live (ends_with_any (reader_list (Plain ends.entry)) (map reader_list words.entry.items)) gone.now 0 }
-    ensures steps { steps.new ≤ steps.old + (reader_left (Plain ends.entry) + sum_by reader_left words.entry.items) }
-{
-    let mut ends = EndReader::new(ends);
-    let mut words = words;
-    tally_any_of(&mut ends, &mut words, gone, steps)
-}
-
-/// The same, whatever lists the ends are.
-fn stem_any<'a, L: Ledger>(
-    ends: TestReader<'a>,
-    words: Vec<TestReader<'a>>,
-    gone: &[Loc],
-    steps: &mut Steps<L>,
-) -> u64
-    requires ends { IsSoundReader ends }
-    requires words { All IsSoundReader words.items }
-    requires ends_unmoved { IsUnmovedReader ends }
-    requires words_unmoved { All IsUnmovedReader words.items }
-    requires gone { IsRising gone.now }
-    ensures count { result ≡ count_live (ends_with_any (reader_list ends.entry) (map reader_list words.entry.items)) gone.now 0 }
-    ensures steps { steps.new ≤ steps.old + (reader_left ends.entry + sum_by reader_left words.entry.items) }
-{
-    let mut ends = EndReader::new(ends);
-    let mut words = words;
-    tally_any_of(&mut ends, &mut words, gone, steps)
-}
-
-/// The same, by a walk for the kind of the ends.
+/// How many documents have a location of one of the tests and were not deleted, by a walk for the kind of the ends. No reader was
+/// moved.
 fn stem_by_kind<'a, L: Ledger>(
     ends: TestReader<'a>,
     words: Vec<TestReader<'a>>,
@@ -79,8 +37,8 @@ fn stem_by_kind<'a, L: Ledger>(
     ensures steps { steps.new ≤ steps.old + (reader_left ends.entry + sum_by reader_left words.entry.items) }
 {
     match ends {
-        TestReader::Plain(plain) => stem_plain(plain, words, gone, steps),
-        other => stem_any(other, words, gone, steps),
+        TestReader::Plain(plain) => asked_words(false, plain, words, gone, steps),
+        other => asked_words(false, other, words, gone, steps),
     }
 }
 
