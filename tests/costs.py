@@ -17,17 +17,20 @@ from support import PATIENCE, TOP, run_tests, until
 
 GATE = os.path.join(TOP, "bench", "gate.py")
 
-# A check works for so many processor seconds, half of them in a process that it starts, says so, and waits for the end of its input.
+# A check works for so many processor seconds, half of them in a process that it starts, says what it took, and waits for the end of its
+# input. A machine that is busy, or shared, counts more than was asked for.
 CHECK = """\
-import subprocess, sys, time
+import os, resource, subprocess, sys, time
 seconds = float(sys.argv[1]) / 2
 if sys.argv[2] == "top":
     subprocess.run([sys.executable, __file__, str(seconds * 2), "below"], check=True)
 while time.process_time() < seconds:
     pass
 if sys.argv[2] == "top":
-    print("worked", flush=True)
+    below = resource.getrusage(resource.RUSAGE_CHILDREN)
+    print(time.process_time() + below.ru_utime + below.ru_stime, flush=True)
     sys.stdin.read()
+os._exit(0)
 """
 
 # The gate begins a look between two lines, so what was done before the first line is seen once the second has come out.
@@ -46,7 +49,9 @@ def check(crate, seconds, *words, folder="crate-"):
     command = [sys.executable, f"{FOLDER}/check", str(seconds), "top", "check", "--crate-name", crate, "src/lib.rt", *words]
     with tempfile.TemporaryDirectory(prefix=folder) as room:
         ran = subprocess.Popen(command, cwd=room, stdin=subprocess.PIPE, stdout=subprocess.PIPE)
-        ran.stdout.readline()
+        kind = "tests" if "--test" in words else "edits" if folder == "rt-edit-" else "proof"
+        with open(f"{FOLDER}/took", "a") as took:
+            print(crate, kind, float(ran.stdout.readline()), file=took)
         pause()
         pause()
         ran.communicate()
@@ -77,8 +82,8 @@ until [ -e "$FOLDER/end" ]; do sleep 0.05; done
 echo last
 """
 
-# Whole seconds of proof, tests and wrong bodies.
-WANTED = [["alta_low", 1, 2, 2], ["alta_high", 1, None, None]]
+KINDS = {"alta_low": ("proof", "tests", "edits"), "alta_high": ("proof",)}  # of which each crate has some
+TICKS, LATER = 0.08, 0.25  # seconds that a look may miss of what the checks took, and that they may take behind it
 
 
 class Costs(unittest.TestCase):
@@ -125,11 +130,26 @@ class Costs(unittest.TestCase):
         until(lambda: all(f"rt: mark {number}\n" in lines for lines in self.printed.values()))
         self.write(f"go {number}", "")
 
-    def assert_recorded(self, name):
+    def took(self, crate, kind):
+        """The processor seconds that the checks of a crate took, by themselves."""
+        with open(self.path("took")) as file:
+            return sum(float(seconds) for name, what, seconds in map(str.split, file) if (name, what) == (crate, kind))
+
+    def recorded(self, name):
+        """The whole seconds of each crate, the dearest first, which have to be those that its checks took."""
         with open(self.path(name)) as file:
             (panel,) = json.load(file)["panels"]
-        self.assertEqual(panel["rows"], WANTED)
+        rows = panel["rows"]
+        self.assertEqual(rows, sorted(rows, key=lambda row: (-sum(value or 0 for value in row[1:]), row[0])))
+        self.assertEqual({row[0] for row in rows}, KINDS.keys())
+        for crate, *cells in rows:
+            for kind, seconds in zip(("proof", "tests", "edits"), cells):
+                self.assertEqual(seconds is not None, kind in KINDS[crate], (crate, kind))
+                if seconds is not None:
+                    took = self.took(crate, kind)
+                    self.assertIn(seconds, range(round(took - TICKS), round(took + LATER) + 1), (crate, kind, took))
         self.assertEqual(panel["series"], ["proof", "tests", "wrong bodies (2 in all)"])
+        return rows
 
     def test_each_way(self):
         pipeline = ["sh", "-c", 'sh "$FOLDER/run" 2>&1 | tee "$FOLDER/log" | "$@"', ""]
@@ -145,10 +165,11 @@ class Costs(unittest.TestCase):
         for name, lines in self.printed.items():
             with self.subTest(name):
                 until(lambda lines=lines: lines[-1].endswith("processor time seen: 3 passed, 2 failed\n"))
-                self.assert_recorded(name)
+                wanted = [[crate, *("-" if value is None else str(value) for value in cells)] for crate, *cells in self.recorded(name)]
                 self.assertEqual((lines[0], "last\n" in lines), ("first\n", name == "piped"))
                 rows = [[row[0], *row[1::3]] for row in map(str.split, lines[-5:-2])]
-                self.assertEqual(rows, [["alta_low", "1", "2", "2"], ["alta_high", "1", "-", "-"], ["alta_top", "-", "-", "-"]])
+                self.assertEqual(sorted(rows[:-1]), sorted(wanted))
+                self.assertEqual(rows[-1], ["alta_top", "-", "-", "-"])
 
     def test_gate_that_does_not_end(self):
         with open(self.path("log"), "w") as log:
