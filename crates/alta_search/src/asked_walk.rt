@@ -17,30 +17,6 @@ use std::alloc::{AllocError, Global};
 use std::sync::ledger::Ledger;
 
 /// How many documents have one of the words, or the first of two before the second, and were not deleted. No reader was moved.
-fn tally_asked<E: BackReader, R: BackReader, L: Ledger>(
-    followed: bool,
-    ends: &mut EndReader<E>,
-    words: &mut [R],
-    gone: &[Loc],
-    steps: &mut Steps<L>,
-) -> u64
-    requires ends { E.sound ends.old.inner }
-    requires words { All R.sound words.old }
-    requires pair { IsTrue followed → length words.old ≡ 2 }
-    requires ends_unmoved { E.location ends.old.inner ≡ first_from (E.list ends.old.inner) 0 }
-    requires words_unmoved { All (λ r. R.location r ≡ first_from (R.list r) 0) words.old }
-    requires gone { IsRising gone.now }
-    ensures count { result ≡ count_live (ends_asked followed (E.list ends.old.inner) (map R.list words.old)) gone.now 0 }
-    ensures steps { steps.new ≤ steps.old + (E.left ends.old.inner + sum_by R.left words.old) }
-{
-    if followed {
-        tally_followed(ends, words, gone, steps)
-    } else {
-        tally_any_of(ends, words, gone, steps)
-    }
-}
-
-/// The same by readers of one's own.
 pub(crate) fn asked_words<E: BackReader + Drop, R: BackReader + Drop, L: Ledger>(
     followed: bool,
     ends: E,
@@ -59,7 +35,11 @@ pub(crate) fn asked_words<E: BackReader + Drop, R: BackReader + Drop, L: Ledger>
 {
     let mut ends = EndReader::new(ends);
     let mut words = words;
-    tally_asked(followed, &mut ends, &mut words, gone, steps)
+    if followed {
+        tally_followed(&mut ends, &mut words, gone, steps)
+    } else {
+        tally_any_of(&mut ends, &mut words, gone, steps)
+    }
 }
 
 /// The same, where the ends stand in memory and the words are coded lists, so that no move asks how its list is read.

@@ -13,7 +13,7 @@ use crate::single_reader::SingleReader;
 use alta_codec::{Loc, Steps, TOP};
 use alta_compound::EndReader;
 use alta_lead::{LeadReader, tally};
-use alta_reader::Reader;
+use alta_reader::{BackReader, Reader};
 use alta_words::{PlainReader, WordReader};
 use std::alloc::{AllocError, Global};
 use std::sync::ledger::Ledger;
@@ -92,9 +92,9 @@ fn tally_coded<'a, L: Ledger>(
     Ok(tally(&mut ends, &mut words, &mut negated, lead, at, gone, steps))
 }
 
-/// The same, whatever lists the words are.
-fn tally_plain<'a, L: Ledger>(
-    ends: PlainReader<'a>,
+/// The same, whatever lists the words are, and by any reader of the ends that makes one step a move.
+fn tally_words<'a, E: BackReader + Drop, L: Ledger>(
+    ends: E,
     words: Vec<SingleReader<'a>>,
     negated: Vec<SingleReader<'a>>,
     lead: usize,
@@ -102,43 +102,17 @@ fn tally_plain<'a, L: Ledger>(
     gone: &[Loc],
     steps: &mut Steps<L>,
 ) -> u64
-    requires ends { IsSoundSingle (Plain ends) }
+    requires ends { E.sound ends }
+    requires cost { (e : E) → E.cost e ≤ 1 }
     requires words { All IsSoundSingle words.items }
     requires negated { All IsSoundSingle negated.items }
     requires lead { lead < length words.items }
-    requires at { AreAtAnswer (single_list (Plain ends)) (map single_list words.items) (map single_list negated.items) at
-        (single_place (Plain ends)) (map single_place words.items) (map single_place negated.items) }
+    requires at { AreAtAnswer (E.list ends) (map single_list words.items) (map single_list negated.items) at
+        (E.location ends) (map single_place words.items) (map single_place negated.items) }
     requires gone { IsRising gone.now }
-    ensures count { result ≡ count_live (ends_having (single_list (Plain ends.entry)) (map single_list words.entry.items) (map single_list negated.entry.items)) gone.now at }
-    ensures steps { AreFewSteps (single_list (Plain ends.entry)) (map single_list words.entry.items) (map single_list negated.entry.items) lead at
-        (single_left (Plain ends.entry) + sum_by single_left words.entry.items + sum_by single_left negated.entry.items) steps.old steps.new }
-{
-    let mut ends = EndReader::new(ends);
-    let mut words = words;
-    let mut negated = negated;
-    tally(&mut ends, &mut words, &mut negated, lead, at, gone, steps)
-}
-
-/// The same, whatever lists the ends and the words are.
-fn tally_any<'a, L: Ledger>(
-    ends: SingleReader<'a>,
-    words: Vec<SingleReader<'a>>,
-    negated: Vec<SingleReader<'a>>,
-    lead: usize,
-    at: Loc,
-    gone: &[Loc],
-    steps: &mut Steps<L>,
-) -> u64
-    requires ends { IsSoundSingle ends }
-    requires words { All IsSoundSingle words.items }
-    requires negated { All IsSoundSingle negated.items }
-    requires lead { lead < length words.items }
-    requires at { AreAtAnswer (single_list ends) (map single_list words.items) (map single_list negated.items) at
-        (single_place ends) (map single_place words.items) (map single_place negated.items) }
-    requires gone { IsRising gone.now }
-    ensures count { result ≡ count_live (ends_having (single_list ends.entry) (map single_list words.entry.items) (map single_list negated.entry.items)) gone.now at }
-    ensures steps { AreFewSteps (single_list ends.entry) (map single_list words.entry.items) (map single_list negated.entry.items) lead at
-        (single_left ends.entry + sum_by single_left words.entry.items + sum_by single_left negated.entry.items) steps.old steps.new }
+    ensures count { result ≡ count_live (ends_having (E.list ends) (map single_list words.entry.items) (map single_list negated.entry.items)) gone.now at }
+    ensures steps { AreFewSteps (E.list ends) (map single_list words.entry.items) (map single_list negated.entry.items) lead at
+        (E.left ends + sum_by single_left words.entry.items + sum_by single_left negated.entry.items) steps.old steps.new }
 {
     let mut ends = EndReader::new(ends);
     let mut words = words;
@@ -173,10 +147,10 @@ fn tally_parts<'a, L: Ledger>(
             if are_coded(&words) && are_coded(&negated) {
                 tally_coded(alloc, plain, words, negated, lead, at, gone, steps)
             } else {
-                Ok(tally_plain(plain, words, negated, lead, at, gone, steps))
+                Ok(tally_words(plain, words, negated, lead, at, gone, steps))
             }
         }
-        other => Ok(tally_any(other, words, negated, lead, at, gone, steps)),
+        other => Ok(tally_words(other, words, negated, lead, at, gone, steps)),
     }
 }
 
