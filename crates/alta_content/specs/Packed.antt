@@ -1,5 +1,5 @@
 -- How lists are packed: a row for each in one buffer, and in another the distances of its locations, each from the one before.
-use Rattle.std.specs.Prelude.{◌≡◌, ℕ, zero, suc, ◌+◌, ◌-◌, ◌%◌, ◌^◌, ◌<◌, ◌≤◌, ◌++◌, List, [], ◌∷◌, length, drop, take, flat_map, Result, Ok, Err}
+use Rattle.std.specs.Prelude.{◌≡◌, ℕ, zero, suc, ◌+◌, ◌-◌, ◌%◌, ◌^◌, ◌<◌, ◌≤◌, ◌++◌, List, [], ◌∷◌, length, drop, take, flat_map, Result, Ok, Err, OnOk, OnErr}
 use Rattle.std.specs.List.{All}
 use Rattle.alta_codec.specs.Numbers.{number_bytes, number_from}
 use Rattle.alta_codec.specs.declared.number.CodeFault.{CodeFault}
@@ -30,6 +30,11 @@ pub record AreGaps (bytes : List ℕ) (count : ℕ) (locations : List ℕ) : Typ
   pub spelled : bytes ≡ gaps_bytes 0 locations
   pub counted : length locations ≡ count
   pub small : All (λ x. x < 2 ^ 64) locations
+
+-- on Ok the items stand behind the others, on Err all is as it was
+pub record Appends {A T E : Type 0} (items old new : List A) (result : Result T E) : Type 0 where
+  pub put : OnOk result (new ≡ old ++ items)
+  pub kept : OnErr result (new ≡ old)
 
 -- the bytes are the gaps of so many locations, and the gaps behind so many of them begin at the place, behind the last of these
 pub record IsGathered (bytes : List ℕ) (count before last place : ℕ) (locations : List ℕ) : Type 0 where

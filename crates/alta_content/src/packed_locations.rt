@@ -1,10 +1,11 @@
 // Locations that are gathered from lists, packed as the lists are.
-ghost use Rattle.std.specs.Prelude.{◌≡◌, ◌++◌, ℕ, List, [], OnOk, OnErr};
-ghost use Rattle.alta_content.specs.Packed.{AreGaps};
+ghost use Rattle.std.specs.Prelude.{◌≡◌, ℕ, List, []};
+ghost use Rattle.alta_content.specs.Packed.{Appends, AreGaps};
 
 use crate::packing::{last_at, put_behind};
 use alta_codec::Loc;
 use std::alloc::{AllocError, Global};
+use std::default::MadeWith;
 use std::marker::Model;
 
 /// A list as it is held.
@@ -43,11 +44,11 @@ impl Model for PackedLocations {
     ghost invariant = { λ p. IsGathered p.gaps.items p.count p.before p.last p.place (locations_in p.count 0 p.gaps.items) };
 }
 
-impl PackedLocations {
+impl MadeWith<Global> for PackedLocations {
+    ghost is_made_with = { λ locations. locations ≡ [] };
+
     /// No locations.
-    pub fn new(alloc: Global) -> PackedLocations
-        ensures { result ≡ [] }
-    {
+    fn made_with(alloc: Global) -> PackedLocations {
         PackedLocations {
             count: 0,
             gaps: Vec::new(alloc),
@@ -56,7 +57,9 @@ impl PackedLocations {
             place: 0,
         }
     }
+}
 
+impl PackedLocations {
     /// Leaves no locations. Their room stays for others.
     pub fn clear(&mut self)
         ensures { self.new ≡ [] }
@@ -71,8 +74,7 @@ impl PackedLocations {
     /// Adds the locations of a list behind the others. Where memory is wanting, these stay.
     pub fn put(&mut self, list: PackedList<'_>) -> Result<(), AllocError>
         requires { (locations : List ℕ) × AreGaps list.gaps.now list.count locations }
-        ensures put { (locations : List ℕ) → AreGaps list.entry.gaps.now list.entry.count locations → OnOk result (self.new ≡ self.old ++ locations) }
-        ensures kept { OnErr result (self.new ≡ self.old) }
+        ensures { (locations : List ℕ) → AreGaps list.entry.gaps.now list.entry.count locations → Appends locations self.old self.new result }
     {
         let last = last_at(&self.gaps, self.place, self.last, self.count - self.before);
         let place = self.gaps.len();

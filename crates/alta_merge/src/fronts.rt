@@ -1,7 +1,7 @@
 // The term that comes next of the lists that are left of each content, and what it takes of them.
 ghost use Rattle.std.specs.Prelude.{◌≡◌, ◌+◌, ◌<◌, ◌++◌, ℕ, List, [], length, flat_map, slice_index_or, slice_set, MatchOption, OnOk, OnErr};
 ghost use Rattle.alta_content.specs.Fronts.{front_term};
-ghost use Rattle.alta_content.specs.Packed.{AreGaps};
+ghost use Rattle.alta_content.specs.Packed.{Appends, AreGaps};
 ghost use Rattle.alta_content.specs.Spans.{SpansRise};
 ghost use Rattle.alta_merge.specs.Fronts.{AreNext, IsFirstLeft, NoneLeft, begins, behind, behind_next, front_of, if_some, next_list, next_term, whole_list};
 
@@ -126,7 +126,7 @@ fn put_front_packed(
     rest: &TermLists,
     term: &[u8],
 ) -> Result<(), AllocError>
-    ensures { OnOk result (all.new ≡ all.old ++ front_of term.now rest.now) }
+    ensures put { OnOk result (all.new ≡ all.old ++ front_of term.now rest.now) }
 {
     if begins(rest, term) {
         all.put(rest.first_packed())?;
@@ -154,8 +154,7 @@ fn gather_packed(
 
 // Adds a term with its locations at the end, unless it has none. Where memory is wanting the lists stay.
 fn put_some(made: &mut TermLists, term: &[u8], locations: &[Loc]) -> Result<(), AllocError>
-    ensures put { OnOk result (made.new ≡ made.old ++ if_some (record { term = term.now; locations = locations.now })) }
-    ensures kept { OnErr result (made.new ≡ made.old) }
+    ensures { Appends (if_some (record { term = term.now; locations = locations.now })) made.old made.new result }
 {
     if locations.is_empty() {
         return Ok(());
@@ -170,9 +169,8 @@ fn put_some_packed(
     list: PackedList<'_>,
 ) -> Result<(), AllocError>
     requires { (locations : List ℕ) × AreGaps list.gaps.now list.count locations }
-    ensures put { (locations : List ℕ) → AreGaps list.entry.gaps.now list.entry.count locations
-        → OnOk result (made.new ≡ made.old ++ if_some (record { term = term.now; locations = locations })) }
-    ensures kept { OnErr result (made.new ≡ made.old) }
+    ensures { (locations : List ℕ) → AreGaps list.entry.gaps.now list.entry.count locations
+        → Appends (if_some (record { term = term.now; locations = locations })) made.old made.new result }
 {
     if list.count == 0 {
         return Ok(());
@@ -189,8 +187,7 @@ fn put_whole(
     next: Next,
 ) -> Result<(), AllocError>
     requires { AreNext rests.now (length rests.now) next.first next.last }
-    ensures put { OnOk result (made.new ≡ made.old ++ if_some (whole_list rests.now next.first)) }
-    ensures kept { OnErr result (made.new ≡ made.old) }
+    ensures { Appends (if_some (whole_list rests.now next.first)) made.old made.new result }
 {
     let term = term_of(&rests[next.first]);
     if next.first == next.last {
@@ -211,8 +208,7 @@ fn put_outside(
 ) -> Result<(), AllocError>
     requires rising { SpansRise spans.now }
     requires next { AreNext rests.now (length rests.now) next.first next.last }
-    ensures put { OnOk result (made.new ≡ made.old ++ if_some (next_list spans.now rests.now next.first)) }
-    ensures kept { OnErr result (made.new ≡ made.old) }
+    ensures { Appends (if_some (next_list spans.now rests.now next.first)) made.old made.new result }
 {
     gather(room, rests, next)?;
     keep_locations(room, spans);
@@ -238,8 +234,7 @@ fn put_next(
 ) -> Result<(), AllocError>
     requires rising { SpansRise spans.now }
     requires next { AreNext rests.now (length rests.now) next.first next.last }
-    ensures put { OnOk result (made.new ≡ made.old ++ if_some (next_list spans.now rests.now next.first)) }
-    ensures kept { OnErr result (made.new ≡ made.old) }
+    ensures { Appends (if_some (next_list spans.now rests.now next.first)) made.old made.new result }
 {
     if spans.is_empty() {
         return put_whole(made, rests, &mut room.packed, next);

@@ -9,6 +9,7 @@ use alta_content::{
     Content, DocRow, DocRows, PackedLocations, Span, TermLists, keep_rows, spans_of,
 };
 use std::alloc::{AllocError, Global};
+use std::default::MadeWith;
 use std::marker::Model;
 
 /// A join of contents that stand one behind the other, without the documents that were dead when it began. Contracts see what it
@@ -82,9 +83,9 @@ impl Job {
         Job::over(alloc, contents, deleted)
     }
 
-    /// Begins the join of contents, each before the next, as `new` does that of two. Each location is copied to those of its
-    /// term that are gathered, and from there to the list that is made, however many contents there are; each term costs a few
-    /// comparisons for each of them.
+    /// Begins the join of contents, each before the next, as `new` does that of two. Each list is copied to those of its term
+    /// that are gathered, and from there to the list that is made, however many contents there are, or straight where one content
+    /// alone has the term. Each term costs a comparison for each of them.
     pub fn over(alloc: Global, contents: Vec<Content>, deleted: &[Loc]) -> Result<Job, AllocError>
         requires { MayJoin contents.items }
         ensures whole { IfOk result (λ job. job.whole ≡ joined_in contents.items deleted.now) }
@@ -100,7 +101,7 @@ impl Job {
             rests: parts.rests,
             spans,
             room: Room {
-                packed: PackedLocations::new(alloc),
+                packed: PackedLocations::made_with(alloc),
                 locations: Vec::new(alloc),
             },
         })

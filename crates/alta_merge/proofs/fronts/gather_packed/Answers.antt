@@ -16,7 +16,7 @@ loop-i-init c =
     let y = c.index-rests-next-2.result in
     let e : get_or parts next [] ≡ x = get_or_default parts next [] x within ∙ sym c.index-rests-next.is in
     let f : get_or parts next [] ≡ y = get_or_default parts next [] y within ∙ sym c.index-rests-next-2.is in
-    c.in_ok-put.ensures.put (front_locations c.index-rests-next.result) c.first_packed.ensures
+    (c.in_ok-put.ensures (front_locations c.index-rests-next.result) c.first_packed.ensures).put
     ∙ ap (λ l. l ++ front_locations x) c.clear.ensures
     ∙ ap front_locations (sym e)
     ∙ own_fronts parts next c.requires.next

@@ -1,7 +1,8 @@
-use Rattle.std.proofs.Common.{◌≡◌, ℕ, ◌+◌, List, ◌++◌, [], get_or, take, sym, ap, subst, ◌∙◌, arith}
-use Rattle.std.specs.Prelude.{OnOk, flat_map}
+use Rattle.std.proofs.Common.{◌≡◌, ℕ, ◌+◌, List, [], get_or, take, sym, ap, subst, ◌∙◌, arith}
+use Rattle.std.specs.Prelude.{flat_map}
 use Rattle.std.proofs.lemmas.List.{get_or_default}
 use Rattle.alta_content.specs.Fronts.{front_locations, front_term}
+use Rattle.alta_content.specs.Packed.{Appends}
 use Rattle.alta_content.specs.TermList.{TermList}
 use Rattle.alta_merge.specs.Fronts.{front_of, if_some, next_term}
 use Rattle.alta_merge.proofs.Nexts.{none_behind}
@@ -9,8 +10,8 @@ use Rattle.alta_merge.proofs.Takes.{fronts_to, own_fronts}
 use Rattle.alta_merge.proofs.fronts.put_whole.Goals as goal
 
 -- the list of a part that alone begins with the term has all its locations
-pub returns-then-next-clause-put : goal.returns-then-next-clause-put
-returns-then-next-clause-put c =
+pub returns-then-next : goal.returns-then-next
+returns-then-next c =
     let parts = c.args.rests.now in
     let next = c.args.next in
     let t = next_term parts next.first in
@@ -26,6 +27,6 @@ returns-then-next-clause-put c =
     ∙ ap (λ n. flat_map (front_of t) (take n parts)) one
     ∙ fronts_to t parts (next.last + 1) (none_behind parts next.first next.last c.requires) in
     let build : List ℕ → List ℕ → TermList = λ u xs. record { term = u; locations = xs } in
-    subst (λ (l : TermList). OnOk c.put_some_packed.result (c.put_some_packed.new.made ≡ c.args.made.now ++ if_some l))
+    subst (λ (l : TermList). Appends (if_some l) c.args.made.now c.put_some_packed.new.made c.put_some_packed.result)
     (ap (λ u. build u (front_locations y)) term ∙ ap (λ xs. build t xs) locations)
-    (c.put_some_packed.ensures.put (front_locations y) c.first_packed.ensures)
+    (c.put_some_packed.ensures (front_locations y) c.first_packed.ensures)

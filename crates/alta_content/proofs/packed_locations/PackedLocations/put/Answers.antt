@@ -37,8 +37,8 @@ module _ (c : goal.After-self-4-1) (locations : List ℕ) (are : AreGaps c.args.
       put_gathered s.gaps.items c.args.list.gaps.now c.put_behind.new.all.items s.count c.args.list.count c.last_at-last.result (old c) locations
       c.self.invariant.are (last_is c) are (c.in_ok-put_behind.ensures locations are.spelled are.small)
 
-pub returns-clause-put : goal.returns-clause-put
-returns-clause-put c = λ locations are. (gathered c locations are).1 ∙ ap (λ (x : List ℕ). x ++ locations) c.self.view_is
+pub returns : goal.returns
+returns c = λ locations are. record { put = (gathered c locations are).1 ∙ ap (λ (x : List ℕ). x ++ locations) c.self.view_is; kept = tt }
 
 pub invariant_of-self-2 : goal.invariant_of-self-2
 invariant_of-self-2 c =
