@@ -229,16 +229,16 @@ def over_levels(index):
 
 
 # Lines over a level with the document `a`, and how many times each reads the file. The list of all ends is read once until a line changes
-# the index, and so is a long list; a short one is read each time it is asked.
+# the levels, and so is a long list; a short one is read each time it is asked.
 READS = """\
 count zebra: 1, count zebra: 0, search owl: 0
 count fox: 2, count fox: 1
 count elk: 2, count elk: 0, search elk: 0
-count elk: 2, add b\tx\ty: some, count elk: 2
-count elk: 2, merge: 0, count elk: 2
+count elk: 2, add b\tx\ty: some, count elk: 0, flush: some, count elk: 3
+count elk: 2, merge: 0, count elk: 0
 open zebra: 1, count (: 0, top 1 fox: 2, count zebra: 0
-count zebra: 1, add b\tx\ty: some, count zebra: 1, count zebra: 0
-count zebra: 1, delete a: some, count zebra: 1
+count zebra: 1, add b\tx\ty: some, count zebra: 0, flush: some, count zebra: 2
+count zebra: 1, delete a: some, count zebra: 0
 count zebra: 1, delete b: 0, count zebra: 0
 stats: 0, flush: 0, merge: 0, step 1: 0, stats: 0
 """
