@@ -6,7 +6,6 @@ use Rattle.alta_codec.specs.Rising.{count_from}
 use Rattle.alta_codec.proofs.Places.{Contains-head, Contains-tail, count_from-falls}
 use Rattle.alta_compound.specs.Gathered.{insert_before, sorted}
 
-
 pub count_from-append : (xs ys : List ℕ) (t : ℕ) → count_from (xs ++ ys) t ≡ count_from xs t + count_from ys t
 unfolding count_from
 count_from-append [] ys t = omega arith
