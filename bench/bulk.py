@@ -1,8 +1,8 @@
 #!/usr/bin/env python3
-"""Measures adding many documents with a merge behind them, beside SQLite's full-text index, and how the cost grows.
+"""Measures adding many documents with a merge behind them, beside SQLite's full-text index.
 
 usage: bench/bulk.py [--program PATH] [--lines FILE | --texts FOLDER] [--count N] [--parts N,N,..] [--folder FOLDER] [--fast]
-                     [--merge-full | --merge-each BYTES [--merge-share SHARE]] [--record FILE]
+                     [--merge-full | --merge-each BYTES [--merge-share SHARE]]
 
 FILE has `add` lines, as `bunco packages` writes them. Without one, the text files below FOLDER (/usr/share/doc), packed ones
 too, are cut at empty lines into documents of 400 bytes or more, in the order of their paths. The first N of the documents
@@ -18,8 +18,8 @@ the current folder by default), by:
 
 Prints for each the documents a second, the processor time, the bytes that it handed to the system to write for each byte of text, the
 peak memory, and the size of the index beside the text: of the program's level, of its file without slots and journal, and of FTS5's
-file behind a `vacuum`. The number of documents that each finds for a word may differ by where it cuts words. With --record
-the program's seconds, memory and sizes go into a file of figures, from which bench/plot.py draws how they grow.
+file behind a `vacuum`. The number of documents that each finds for a word may differ by where it cuts words. bench/sizes.py measures
+how all this grows.
 """
 
 import argparse
@@ -33,7 +33,7 @@ import subprocess
 import sys
 import tempfile
 import time
-from typing import NamedTuple, Optional
+from typing import NamedTuple
 
 TOP = os.path.dirname(os.path.dirname(os.path.abspath(__file__)))
 sys.path[:0] = [os.path.join(TOP, "tests"), os.path.join(TOP, "client")]
@@ -41,7 +41,6 @@ sys.path[:0] = [os.path.join(TOP, "tests"), os.path.join(TOP, "client")]
 from buncocedar.fileformat import LEVELS
 from buncocedar.imports.engine import Levels
 from model.reading import HEAD, read_roots
-from recorded import record
 
 LEAST = 400  # bytes of a document that is cut from a file
 WORD = "version"
@@ -77,42 +76,6 @@ class Cost(NamedTuple):
 
     def and_then(self, other):
         return Cost(*(a + b for a, b in zip(self[:3], other[:3])), max(self.memory, other.memory))
-
-
-class Grown(NamedTuple):
-    """What an index costs: seconds of the processor for adds and merges, milliseconds of an opening where that was measured, peak memory
-    in MiB, megabytes of the index once it is merged."""
-
-    adding: float
-    opening: Optional[float]
-    memory: float
-    size: float
-
-
-def rounded(value):
-    """A figure with three digits behind the point, where there is one."""
-    return None if value is None else round(value, 3)
-
-
-def panels_of(grown):
-    """The panels of a picture of how these grow: of each size of text in megabytes the program's and FTS5's."""
-    drawn = {
-        "adding": ("adds and merges, processor time", "s"),
-        "opening": ("an opening before the last merge, processor time", "ms"),
-        "memory": ("memory at most", "MiB"),
-        "size": ("the merged index", "MB"),
-    }
-    return [
-        {
-            "title": title,
-            "kind": "lines",
-            "unit": unit,
-            "across": "megabytes of text",
-            "series": ["Buncocedar", "SQLite FTS5 in one transaction"],
-            "rows": [[text, *(rounded(getattr(cost, name)) for cost in costs)] for text, costs in sorted(grown.items())],
-        }
-        for name, (title, unit) in drawn.items()
-    ]
 
 
 def peak_until_end(process):
@@ -260,8 +223,7 @@ def by_program(program, folder, source, count, text):
     print(f"  index: {len(levels)} level of {size} bytes, {size / text:.3f} of the text; the file {(len(content) - HEAD) / text:.3f}")
     beside = (merged.memory - opened.memory) * 1024 / size
     print(f"  memory: the merge takes {merged.memory * 1024 / size:.1f} times the level, {beside:.1f} of them beside the open index")
-    both = added.and_then(merged)
-    return given[1], Grown(both.processor, opened.processor * 1e3, both.memory / 1024, size / 1e6)
+    return given[1]
 
 
 def by_table(folder, source, count, text, how):
@@ -276,11 +238,11 @@ def by_table(folder, source, count, text, how):
     base.close()
     size = os.path.getsize(path)
     print(f"  its file: {size} bytes, {size / text:.3f} of the text")
-    return f"found {found}", Grown(cost.processor, None, cost.memory / 1024, size / 1e6)
+    return f"found {found}"
 
 
 def measure(program, options, lines):
-    """All of it over these documents. Answers the megabytes of their text, and what the program and FTS5 in bulk cost."""
+    """All of it over these documents."""
     text = sum(len(part) for line in lines for part in line[4:-1].split(b"\t", 2)[1:])
     print(f"{len(lines)} documents, {text} bytes of text (load {load()})")
     with tempfile.TemporaryDirectory(dir=options.folder) as folder:
@@ -293,13 +255,11 @@ def measure(program, options, lines):
                 file.writelines(with_merges_of_levels(lines))
             else:
                 file.writelines(with_merges(lines, options.merge_each, options.merge_share))
-        answer, ours = by_program(program, folder, given, len(lines), text)
-        found = {"program": answer}
+        found = {"program": by_program(program, folder, given, len(lines), text)}
         for how in ("commits", "bulk")[options.fast :]:
-            found[f"FTS5, {how}"], theirs = by_table(folder, source, len(lines), text, how)
+            found[f"FTS5, {how}"] = by_table(folder, source, len(lines), text, how)
     told = ", ".join(f"{name} {given.removeprefix('found ')}" for name, given in found.items())
     print(f"  documents with {WORD!r}: {told}", flush=True)
-    return round(text / 1e6, 1), (ours, theirs)
 
 
 def main():
@@ -311,7 +271,6 @@ def main():
     parser.add_argument("--parts", type=lambda text: [int(word) for word in text.split(",")], default=[4, 2, 1])
     parser.add_argument("--folder", default=".")
     parser.add_argument("--fast", action="store_true")
-    parser.add_argument("--record", metavar="FILE")
     parser.add_argument("--merge-full", action="store_true")
     parser.add_argument("--merge-each", metavar="BYTES", type=int, default=0)
     parser.add_argument("--merge-share", metavar="SHARE", type=float, default=0)
@@ -321,9 +280,8 @@ def main():
         raise SystemExit("bulk: the program is not built: run ./alta once")
     print(f"SQLite {sqlite3.sqlite_version}, Python {platform.python_version()}, {platform.system()} {platform.release()}, {os.cpu_count()} processors")
     lines = documents_of(options)
-    grown = dict(measure(program, options, lines[: len(lines) // part]) for part in options.parts)
-    if options.record:
-        record(options.record, "How the costs of an index grow with its text", panels_of(grown))
+    for part in options.parts:
+        measure(program, options, lines[: len(lines) // part])
     return 0
 
 

@@ -39,9 +39,14 @@ print(time.process_time() - begun, found)
 """
 
 
+def text_of(line):
+    """Title and body of an `add` line."""
+    return line[4:].rstrip(b"\n").decode().split("\t", 2)[1:]
+
+
 def texts_of(lines):
     """Title and body of each `add` line."""
-    return [line[4:].rstrip(b"\n").decode().split("\t", 2)[1:] for line in lines]
+    return list(map(text_of, lines))
 
 
 def table_of(texts, path, keeps_texts=False):
