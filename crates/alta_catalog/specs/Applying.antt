@@ -12,10 +12,13 @@ use Rattle.alta_catalog.specs.declared.catalog.Catalog.{Catalog}
 
 -- The entry was applied where it is allowed, and nothing has changed where it is not; the answer says which.
 pub record Applies (entry : Entry) (old new : Catalog) (result : Result Bool MetaFault) : Type 0 where
-  pub allowed : (s : State) → (knows : Knows old s) → IfOk result (λ allowed. allowed ≡ true → Allows s entry × KnowsBy new knows.olds (after_entry s entry))
+  pub allowed : (s : State) → (knows : Knows old s)
+      → IfOk result (λ allowed. allowed ≡ true → Allows s entry × KnowsBy new knows.olds (after_entry s entry))
   pub refused : (s : State) → Knows old s → IfOk result (λ allowed. allowed ≡ false → Allows s entry → ⊥)
   pub unchanged : IfOk result (λ allowed. allowed ≡ false → new ≡ old)
   -- what was gone is gone still, and the levels stay
-  pub still : IfOk result (λ allowed. (row : DocRow) → ends_among (gone_of old) row ≡ true → ends_among (gone_of new) row ≡ true)
+  pub still : IfOk result (λ allowed. (row : DocRow) → ends_among (gone_of old) row ≡ true
+      → ends_among (gone_of new) row ≡ true)
   pub levels : levels_of new ≡ levels_of old
-  pub follows : (root : Root) (entries : List Entry) → Follows old root entries → IfOk result (λ allowed. allowed ≡ true → Follows new root (entries ++ entry ∷ []))
+  pub follows : (root : Root) (entries : List Entry) → Follows old root entries
+      → IfOk result (λ allowed. allowed ≡ true → Follows new root (entries ++ entry ∷ []))

@@ -102,7 +102,8 @@ KnowsBy c olds s = (knows : Knows c s) × (knows.olds ≡ olds)
 
 -- The documents of the state are those of the levels' rows whose end is not gone, with these cells, and behind them those of the level in
 -- memory; all rows rise.
-pub record AreParts (levels : List Tables) (gone : List ℕ) (memory : LevelView) (olds : List Added) (s : State) : Type 0 where
+pub record AreParts (levels : List Tables) (gone : List ℕ) (memory : LevelView) (olds : List Added)
+    (s : State) : Type 0 where
   pub rows : AreRowsOf (table_rows levels) olds
   pub newest : List Document
   pub has : HasDocuments gone newest memory

@@ -18,7 +18,8 @@ Ascend (name ∷ names) = All (Precedes name) names × Ascend names
 -- These are the names of the live documents with their numbers, in the order of bytes, each once.
 pub record AreNamesOf (s : State) (rows : List NameRow) : Type 0 where
   pub ascending : Ascend (map (λ (row : NameRow). row.name) rows)
-  pub live : (name : List ℕ) (number : ℕ) → Contains rows (record { name = name; number = number }) ↔ (number_of name s ≡ Some number)
+  pub live : (name : List ℕ) (number : ℕ) → Contains rows (record { name = name; number = number })
+      ↔ (number_of name s ≡ Some number)
 
 -- rows by their names, in the order of bytes
 abbrev pub by_name : NameRow → NameRow → Ordering

@@ -69,7 +69,8 @@ pub record HasRoom (c : Catalog) (prepared : PreparedLevels) : Type 0 where
 
 -- These rows were prepared to come in place of the n oldest levels of the catalog, and those behind all. The ends to come are those of
 -- all rows to come that are gone.
-pub record IsPrepared (c : Catalog) (oldest : List DocRow) (n : ℕ) (newest : List DocRow) (prepared : PreparedLevels) : Type 0 where
+pub record IsPrepared (c : Catalog) (oldest : List DocRow) (n : ℕ) (newest : List DocRow)
+    (prepared : PreparedLevels) : Type 0 where
   pub stay_from : prepared.stay_from ≡ n
   pub deleted : prepared.deleted ≡ ends_in c.gone (rows_between oldest n c.levels.items newest)
   pub room : HasRoom c prepared
@@ -78,5 +79,7 @@ pub record IsPrepared (c : Catalog) (oldest : List DocRow) (n : ℕ) (newest : L
 -- some of all rows, in order, and the documents of the others are gone.
 pub record MayReplace (before : Catalog) (oldest : Option Tables) (n : ℕ) (newest : Option Tables) : Type 0 where
   pub kept : DocRow → Bool
-  pub rows : table_rows (tables_between oldest n before.levels.items newest) ≡ filter kept (table_rows before.levels.items ++ before.memory.content.documents)
-  pub gone : All (λ (row : DocRow). kept row ≡ false → ends_among before.gone row ≡ true) (table_rows before.levels.items ++ before.memory.content.documents)
+  pub rows : table_rows (tables_between oldest n before.levels.items newest)
+      ≡ filter kept (table_rows before.levels.items ++ before.memory.content.documents)
+  pub gone : All (λ (row : DocRow). kept row ≡ false → ends_among before.gone row ≡ true)
+      (table_rows before.levels.items ++ before.memory.content.documents)

@@ -82,7 +82,8 @@ impl Catalog {
         requires ends { have_ends levels.items deleted.now ≡ true }
         requires ordered { AreOrdered (live_in deleted.now (table_rows levels.items)) }
         requires names { AreNames names (live_in deleted.now (table_rows levels.items)) }
-        ensures knows { (s : State) → (may : MayStart s root.now deleted.now levels.items) → IfOk result (λ c. KnowsBy c may.olds s) }
+        ensures knows { (s : State) → (may : MayStart s root.now deleted.now levels.items)
+            → IfOk result (λ c. KnowsBy c may.olds s) }
         ensures levels { IfOk result (λ c. levels_of c ≡ levels.items) }
         ensures gone { IfOk result (λ c. gone_of c ≡ deleted.now) }
         ensures follows { IfOk result (λ c. Follows c root.now []) }
@@ -121,8 +122,10 @@ impl Catalog {
     pub fn newest(&self) -> (&MemLevel, &[Loc])
         ensures memory { result.0.now ≡ memory_of self.now }
         ensures gone { result.1.now ≡ gone_of self.now }
-        ensures rise { (s : State) → Knows self.now s → RowsPrecede (table_rows (levels_of self.now) ++ (memory_of self.now).content.documents) }
-        ensures parts { (s : State) → (knows : Knows self.now s) → AreParts (levels_of self.now) result.1.now result.0.now knows.olds s }
+        ensures rise { (s : State) → Knows self.now s
+            → RowsPrecede (table_rows (levels_of self.now) ++ (memory_of self.now).content.documents) }
+        ensures parts { (s : State) → (knows : Knows self.now s)
+            → AreParts (levels_of self.now) result.1.now result.0.now knows.olds s }
     {
         (&self.memory, self.gone.ends())
     }
@@ -131,14 +134,16 @@ impl Catalog {
     /// which are copied. Fails for want of memory alone.
     pub fn rows(&self) -> Result<AllRows, AllocError>
         requires { (s : State) × Knows self.now s }
-        ensures { IfOk result (λ rows. rows ≡ table_rows (levels_of self.now) ++ (memory_of self.now).content.documents) }
+        ensures { IfOk result (λ rows. rows ≡ table_rows (levels_of self.now)
+            ++ (memory_of self.now).content.documents) }
     {
         AllRows::new(self.alloc, self.runs()?)
     }
 
     // The same, as they are shared.
     fn runs(&self) -> Result<Vec<Rc<LevelRows>>, AllocError>
-        ensures { IfOk result (λ runs. rows_of_levels (map shared_rows runs.items) ≡ table_rows (levels_of self.now) ++ (memory_of self.now).content.documents) }
+        ensures { IfOk result (λ runs. rows_of_levels (map shared_rows runs.items)
+            ≡ table_rows (levels_of self.now) ++ (memory_of self.now).content.documents) }
     {
         let rows = share_rows(self.alloc, &self.levels)?;
         with_runs(rows, self.memory.runs()?)
@@ -163,7 +168,9 @@ impl Catalog {
     /// with that of the row of the number, which is found by halves in each level.
     pub fn number_of(&self, name: &str) -> Option<u64>
         ensures value { (s : State) → Knows self.now s → result ≡ number_of name.now s }
-        ensures some { (s : State) → Knows self.now s → IfSome result (λ n. (has_name name.now s ≡ true) × (has_number n s ≡ true) × (without n s ≡ with_deleted name.now s)) }
+        ensures some { (s : State) → Knows self.now s
+            → IfSome result (λ n. (has_name name.now s ≡ true) × (has_number n s ≡ true)
+            × (without n s ≡ with_deleted name.now s)) }
         ensures none { (s : State) → Knows self.now s → IfNone result (has_name name.now s ≡ false) }
     {
         self.look_up(name)
@@ -184,8 +191,10 @@ impl Catalog {
 
     // Whether the row with the number of a live document has this name.
     fn is_named(&self, number: u64, name: &str) -> bool
-        ensures yes { (s : State) → Knows self.now s → has_number number s ≡ true → result ≡ true → number_of name.now s ≡ Some number }
-        ensures no { (s : State) → Knows self.now s → has_number number s ≡ true → result ≡ false → number_of name.now s ≢ Some number }
+        ensures yes { (s : State) → Knows self.now s → has_number number s ≡ true → result ≡ true
+            → number_of name.now s ≡ Some number }
+        ensures no { (s : State) → Knows self.now s → has_number number s ≡ true → result ≡ false
+            → number_of name.now s ≢ Some number }
     {
         let Some(row) = find(&self.levels, &self.memory, self.first, number) else {
             return false;
@@ -222,10 +231,12 @@ impl Catalog {
         requires short { length title.now + length body.now ≤ TEXTS_BYTES }
         requires free { (s : State) → Knows self.old s → has_name name.now s ≡ false }
         requires left { (s : State) → Knows self.old s → s.next < 4294967296 }
-        ensures added { OnOk result ((s : State) → (knows : Knows self.old s) → KnowsBy self.new knows.olds (with_added name.now title.now body.now s)) }
+        ensures added { OnOk result ((s : State) → (knows : Knows self.old s)
+            → KnowsBy self.new knows.olds (with_added name.now title.now body.now s)) }
         ensures levels { levels_of self.new ≡ levels_of self.old }
         ensures gone { gone_of self.new ≡ gone_of self.old }
-        ensures follows { (root : Root) → (entries : List Entry) → Follows self.old root entries → OnOk result (Follows self.new root (entries ++ AddEntry name.now title.now body.now ∷ [])) }
+        ensures follows { (root : Root) → (entries : List Entry) → Follows self.old root entries
+            → OnOk result (Follows self.new root (entries ++ AddEntry name.now title.now body.now ∷ [])) }
     {
         let cells = cells(alloc, name, title, body)?;
         let count = cells.len() as u64;
@@ -252,12 +263,16 @@ impl Catalog {
     /// `AllocError` where memory is wanting: nothing has changed.
     pub fn delete(&mut self, number: u64) -> Result<bool, AllocError>
         requires { (s : State) × Knows self.old s }
-        ensures deleted { IfOk result (λ there. there ≡ true → (s : State) → (knows : Knows self.old s) → (has_number number s ≡ true) × KnowsBy self.new knows.olds (without number s)) }
-        ensures missing { IfOk result (λ there. there ≡ false → (s : State) → Knows self.old s → has_number number s ≡ false) }
+        ensures deleted { IfOk result (λ there. there ≡ true → (s : State) → (knows : Knows self.old s)
+            → (has_number number s ≡ true) × KnowsBy self.new knows.olds (without number s)) }
+        ensures missing { IfOk result (λ there. there ≡ false → (s : State) → Knows self.old s
+            → has_number number s ≡ false) }
         ensures unchanged { IfOk result (λ there. there ≡ false → self.new ≡ self.old) }
-        ensures still { IfOk result (λ there. (row : DocRow) → ends_among (gone_of self.old) row ≡ true → ends_among (gone_of self.new) row ≡ true) }
+        ensures still { IfOk result (λ there. (row : DocRow) → ends_among (gone_of self.old) row ≡ true
+            → ends_among (gone_of self.new) row ≡ true) }
         ensures levels { levels_of self.new ≡ levels_of self.old }
-        ensures follows { (root : Root) → (entries : List Entry) → Follows self.old root entries → IfOk result (λ there. there ≡ true → Follows self.new root (entries ++ DeleteEntry number ∷ [])) }
+        ensures follows { (root : Root) → (entries : List Entry) → Follows self.old root entries
+            → IfOk result (λ there. there ≡ true → Follows self.new root (entries ++ DeleteEntry number ∷ [])) }
     {
         let Some(row) = find(&self.levels, &self.memory, self.first, number) else {
             return Ok(false);
@@ -280,10 +295,13 @@ impl Catalog {
     /// `AllocError` where memory is wanting: nothing has changed.
     pub fn remove(&mut self, number: u64) -> Result<(), AllocError>
         requires { (s : State) × Knows self.old s × (has_number number s ≡ true) }
-        ensures removed { OnOk result ((s : State) → (knows : Knows self.old s) → KnowsBy self.new knows.olds (without number s)) }
-        ensures still { OnOk result ((row : DocRow) → ends_among (gone_of self.old) row ≡ true → ends_among (gone_of self.new) row ≡ true) }
+        ensures removed { OnOk result ((s : State) → (knows : Knows self.old s)
+            → KnowsBy self.new knows.olds (without number s)) }
+        ensures still { OnOk result ((row : DocRow) → ends_among (gone_of self.old) row ≡ true
+            → ends_among (gone_of self.new) row ≡ true) }
         ensures levels { levels_of self.new ≡ levels_of self.old }
-        ensures follows { (root : Root) → (entries : List Entry) → Follows self.old root entries → OnOk result (Follows self.new root (entries ++ DeleteEntry number ∷ [])) }
+        ensures follows { (root : Root) → (entries : List Entry) → Follows self.old root entries
+            → OnOk result (Follows self.new root (entries ++ DeleteEntry number ∷ [])) }
     {
         match self.delete(number) {
             Ok(true) => Ok(()),
@@ -294,8 +312,11 @@ impl Catalog {
 
     /// The number that the next document gets, and the location of its first cell.
     pub fn bounds(&self) -> (DocNumber, Loc)
-        ensures follows { (root : Root) → (entries : List Entry) → Follows self.now root entries → (result.0 ≡ root.next_number + length (newest_of root entries)) × (result.1 ≡ root.next_location + sum_by (λ (a : Added). a.row.cells) (newest_of root entries)) }
-        ensures within { (s : State) → Knows self.now s → (1 ≤ result.0) × (result.0 ≤ 4294967296) × (1 ≤ result.1) × (result.1 ≤ 1 + (result.0 - 1) * 262146) }
+        ensures follows { (root : Root) → (entries : List Entry) → Follows self.now root entries
+            → (result.0 ≡ root.next_number + length (newest_of root entries))
+            × (result.1 ≡ root.next_location + sum_by (λ (a : Added). a.row.cells) (newest_of root entries)) }
+        ensures within { (s : State) → Knows self.now s → (1 ≤ result.0) × (result.0 ≤ 4294967296) × (1 ≤ result.1)
+            × (result.1 ≤ 1 + (result.0 - 1) * 262146) }
         ensures next { (s : State) → Knows self.now s → result.0 ≡ s.next }
         ensures are { (result.0 ≡ next_of self.now) × (result.1 ≡ location_of self.now) }
     {
@@ -344,14 +365,21 @@ impl Catalog {
         newest: Option<OpenLevel>,
     )
         requires room { HasRoom self.old prepared }
-        ensures knows { (before : Catalog) → (s : State) → (n : ℕ) → (olds : List Added) → IsEmptied before self.old → Knows before s
-            → IsPrepared self.old (table_rows (level_in oldest)) n (table_rows (level_in newest)) prepared → MayReplace before oldest n newest
-            → AreRowsOf (table_rows (levels_of self.new)) olds → KnowsBy self.new olds (record { next = s.next; documents = documents_left (deleted_of prepared) olds }) }
+        ensures knows { (before : Catalog) → (s : State) → (n : ℕ) → (olds : List Added)
+            → IsEmptied before self.old → Knows before s
+            → IsPrepared self.old (table_rows (level_in oldest)) n (table_rows (level_in newest)) prepared
+            → MayReplace before oldest n newest
+            → AreRowsOf (table_rows (levels_of self.new)) olds
+            → KnowsBy self.new olds (record { next = s.next; documents = documents_left (deleted_of prepared) olds }) }
         ensures same { (before : Catalog) → (s : State) → (n : ℕ) → IsEmptied before self.old → Knows before s
-            → IsPrepared self.old (table_rows (level_in oldest)) n (table_rows (level_in newest)) prepared → MayReplace before oldest n newest → Knows self.new s }
-        ensures levels { levels_of self.new ≡ tables_between oldest (stay_from_of prepared) (levels_of self.old) newest }
+            → IsPrepared self.old (table_rows (level_in oldest)) n (table_rows (level_in newest)) prepared
+            → MayReplace before oldest n newest → Knows self.new s }
+        ensures levels { levels_of self.new ≡ tables_between oldest (stay_from_of prepared)
+            (levels_of self.old) newest }
         ensures gone { gone_of self.new ≡ deleted_of prepared }
-        ensures follows { (root : Root) → root.next_number ≡ next_of self.old → root.next_location ≡ location_of self.old → HasContent [] (memory_of self.old).content → Follows self.new root [] }
+        ensures follows { (root : Root) → root.next_number ≡ next_of self.old
+            → root.next_location ≡ location_of self.old → HasContent [] (memory_of self.old).content
+            → Follows self.new root [] }
     {
         let PreparedLevels {
             stay_from,

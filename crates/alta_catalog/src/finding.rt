@@ -28,8 +28,11 @@ pub(crate) fn find<'a>(
     first: u64,
     number: u64,
 ) -> Option<&'a DocRow>
-    ensures some { FollowOn first memory.now.content.documents → IfSome result (λ row. Contains (table_rows levels.now ++ memory.now.content.documents) row.now × (row.now.number ≡ number)) }
-    ensures none { FollowOn first memory.now.content.documents → IfNone result (AreOther number (table_rows levels.now ++ memory.now.content.documents)) }
+    ensures some { FollowOn first memory.now.content.documents
+        → IfSome result (λ row. Contains (table_rows levels.now ++ memory.now.content.documents) row.now
+        × (row.now.number ≡ number)) }
+    ensures none { FollowOn first memory.now.content.documents
+        → IfNone result (AreOther number (table_rows levels.now ++ memory.now.content.documents)) }
 {
     match index_of(first, number, memory.len()) {
         Some(index) => Some(memory.row(index)),

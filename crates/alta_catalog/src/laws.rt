@@ -29,7 +29,8 @@ pub fn a_state_may_be()
 
 /// A root with its deleted ends and levels may speak of a state, before the entries.
 pub fn a_root_may_start()
-    ensures { (root : Root) → (deleted : List ℕ) → (levels : List Tables) → (s : State) × MayStart s root deleted levels }
+    ensures { (root : Root) → (deleted : List ℕ) → (levels : List Tables)
+        → (s : State) × MayStart s root deleted levels }
 {}
 
 /// Whatever is opened may speak of a state, also where a stream or a summary of a level is bad.
@@ -39,17 +40,22 @@ pub fn something_may_be()
 
 /// With an entry more, what is opened may speak of the states behind the entry of those of before, and of no others.
 pub fn an_entry_goes_on()
-    ensures entered { (s : State) → (o : Opened) → (entry : Entry) → MayBe s o → MayBe (after_entry s entry) (with_entry o entry) }
-    ensures before { (t : State) → (o : Opened) → (entry : Entry) → MayBe t (with_entry o entry) → (s : State) × MayBe s o × (t ≡ after_entry s entry) }
+    ensures entered { (s : State) → (o : Opened) → (entry : Entry) → MayBe s o
+        → MayBe (after_entry s entry) (with_entry o entry) }
+    ensures before { (t : State) → (o : Opened) → (entry : Entry) → MayBe t (with_entry o entry)
+        → (s : State) × MayBe s o × (t ≡ after_entry s entry) }
     ensures none { (s : State) → (o : Opened) → o.entries ≡ [] → MayBe s o → MayStart s o.root o.deleted o.levels }
 {}
 
 /// Of all states of which an opened image may speak the same is known, next number and live documents' names and numbers: what opening
 /// tests the entries against, and what it finds behind them.
 pub fn what_may_be_is_known()
-    ensures start { (s : State) → (root : Root) → (deleted : List ℕ) → (levels : List Tables) → MayStart s root deleted levels → known_of s ≡ known_at root deleted levels }
-    ensures behind { (s : State) → (o : Opened) → (image : List ℕ) → (is : IsNamed o image) → MayBe s o → is.known ≡ known_of s }
-    ensures refused { (s : State) → (found : List Placed) → (place : ℕ) → IsRefusedAt s found place → replayed (known_of s) found ≡ Err place }
+    ensures start { (s : State) → (root : Root) → (deleted : List ℕ) → (levels : List Tables)
+        → MayStart s root deleted levels → known_of s ≡ known_at root deleted levels }
+    ensures behind { (s : State) → (o : Opened) → (image : List ℕ) → (is : IsNamed o image) → MayBe s o
+        → is.known ≡ known_of s }
+    ensures refused { (s : State) → (found : List Placed) → (place : ℕ) → IsRefusedAt s found place
+        → replayed (known_of s) found ≡ Err place }
 {}
 
 /// Of all states at which a catalog stands the same is known.
@@ -61,16 +67,22 @@ pub fn a_catalog_knows_one()
 /// leaves a document out; and so they are among any of its rows. The levels' documents end below the root's next location, and the newest
 /// begin at or behind it.
 pub fn what_is_gone()
-    ensures gone { (c : Catalog) → (s : State) → (o : Opened) → (image : List ℕ) → (levels : List Level) → IsOpened o image → (may : MayBe s o) → KnowsBy c may.starts.olds s → Follows c o.root o.entries
+    ensures gone { (c : Catalog) → (s : State) → (o : Opened) → (image : List ℕ) → (levels : List Level)
+        → IsOpened o image → (may : MayBe s o) → KnowsBy c may.starts.olds s → Follows c o.root o.entries
         → levels_of c ≡ o.levels → level_rows levels ≡ table_rows o.levels → gone_of c ≡ gone (view_of o levels) }
-    ensures among { (c : Catalog) → (s : State) → (o : Opened) → (image : List ℕ) → (levels : List Level) → IsOpened o image → (may : MayBe s o) → KnowsBy c may.starts.olds s → Follows c o.root o.entries
-        → levels_of c ≡ o.levels → level_rows levels ≡ table_rows o.levels → (rows : List DocRow) → All (Contains (level_rows levels ++ map (λ (a : Added). a.row) (newest (view_of o levels)))) rows
+    ensures among { (c : Catalog) → (s : State) → (o : Opened) → (image : List ℕ) → (levels : List Level)
+        → IsOpened o image → (may : MayBe s o) → KnowsBy c may.starts.olds s → Follows c o.root o.entries
+        → levels_of c ≡ o.levels → level_rows levels ≡ table_rows o.levels → (rows : List DocRow)
+        → All (Contains (level_rows levels ++ map (λ (a : Added). a.row) (newest (view_of o levels)))) rows
         → ends_in (gone_of c) rows ≡ gone_among (view_of o levels) rows }
-    ensures below { (o : Opened) → (image : List ℕ) → IsOpened o image → All (λ (row : DocRow). end_of row < o.root.next_location) (table_rows o.levels) }
-    ensures behind { (c : Catalog) → (root : Root) → (entries : List Entry) → Follows c root entries → All (λ (row : DocRow). root.next_location ≤ row.first) (memory_of c).content.documents }
+    ensures below { (o : Opened) → (image : List ℕ) → IsOpened o image
+        → All (λ (row : DocRow). end_of row < o.root.next_location) (table_rows o.levels) }
+    ensures behind { (c : Catalog) → (root : Root) → (entries : List Entry) → Follows c root entries
+        → All (λ (row : DocRow). root.next_location ≤ row.first) (memory_of c).content.documents }
 {}
 
 /// Some of the rows of levels and of newest documents, in order, rise without meeting.
 pub fn some_rows_rise()
-    ensures { (c : Catalog) → (s : State) → (kept : DocRow → Bool) → Knows c s → RowsRise (filter kept (table_rows (levels_of c) ++ (memory_of c).content.documents)) }
+    ensures { (c : Catalog) → (s : State) → (kept : DocRow → Bool) → Knows c s
+        → RowsRise (filter kept (table_rows (levels_of c) ++ (memory_of c).content.documents)) }
 {}

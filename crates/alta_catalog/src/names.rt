@@ -20,7 +20,8 @@ pub(crate) fn names_in(
     runs: &[Rc<LevelRows>],
     gone: &Deletions,
 ) -> Result<Names, AllocError>
-    ensures rows { IfOk result (IsPermutation (map name_row (live_in gone.now (rows_of_levels (map shared_rows runs.now))))) }
+    ensures rows { IfOk result (IsPermutation
+        (map name_row (live_in gone.now (rows_of_levels (map shared_rows runs.now))))) }
     ensures sorted { IfOk result (IsSorted by_name) }
 {
     let mut names = live_names(alloc, runs, gone)?;
@@ -42,7 +43,8 @@ fn live_names(
     runs: &[Rc<LevelRows>],
     gone: &Deletions,
 ) -> Result<Vec<NameRow>, AllocError>
-    ensures { IfOk result (λ names. names.items ≡ map name_row (live_in gone.now (rows_of_levels (map shared_rows runs.now)))) }
+    ensures { IfOk result (λ names. names.items
+        ≡ map name_row (live_in gone.now (rows_of_levels (map shared_rows runs.now)))) }
 {
     let mut names = Vec::new(alloc);
     for run in runs {

@@ -48,7 +48,8 @@ pub(crate) fn ends_to_come(
 ) -> Result<Vec<Loc>, AllocError>
     requires rising { IsRising gone.now }
     requires rows { RowsRise (oldest.now ++ (table_rows levels.now ++ newest.now)) }
-    ensures value { IfOk result (λ ends. ends.items ≡ ends_in gone.now (oldest.now ++ (table_rows levels.now ++ newest.now))) }
+    ensures value { IfOk result (λ ends. ends.items
+        ≡ ends_in gone.now (oldest.now ++ (table_rows levels.now ++ newest.now))) }
     ensures rising { IfOk result (λ ends. IsRising ends.items) }
 {
     let mut ends = Vec::new(alloc);

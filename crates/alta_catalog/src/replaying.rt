@@ -35,10 +35,14 @@ pub fn apply_entries(
 ) -> Result<(), CatalogFault>
     requires knows { (s : State) × Knows catalog.old s }
     requires sound { (version : ℕ) × All (λ p. MayBeRecorded version p.entry) found.now }
-    ensures applied { (s : State) → (knows : Knows catalog.old s) → OnOk result (AllowsAll s (entries_in found.now) × KnowsBy catalog.new knows.olds (after_entries s (entries_in found.now))) }
-    ensures damaged { (s : State) → Knows catalog.old s → All (λ p. p.place < 4294967296) found.now → (place : ℕ) → result ≡ Err (Damaged place) → IsRefusedAt s found.now place }
+    ensures applied { (s : State) → (knows : Knows catalog.old s)
+        → OnOk result (AllowsAll s (entries_in found.now)
+        × KnowsBy catalog.new knows.olds (after_entries s (entries_in found.now))) }
+    ensures damaged { (s : State) → Knows catalog.old s → All (λ p. p.place < 4294967296) found.now → (place : ℕ)
+        → result ≡ Err (Damaged place) → IsRefusedAt s found.now place }
     ensures levels { levels_of catalog.new ≡ levels_of catalog.old }
-    ensures follows { (root : Root) → (entries : List Entry) → Follows catalog.old root entries → OnOk result (Follows catalog.new root (entries ++ entries_in found.now)) }
+    ensures follows { (root : Root) → (entries : List Entry) → Follows catalog.old root entries
+        → OnOk result (Follows catalog.new root (entries ++ entries_in found.now)) }
     ensures only { IfErr result (λ e. (e ≡ Memory) ⊎ ((place : ℕ) × (e ≡ Damaged place))) }
 {
     for placed in found {

@@ -27,7 +27,8 @@ pub(crate) fn with_runs(
     runs: Vec<Rc<LevelRows>>,
     more: Vec<Rc<LevelRows>>,
 ) -> Result<Vec<Rc<LevelRows>>, AllocError>
-    ensures { IfOk result (λ all. rows_of_levels (map shared_rows all.items) ≡ rows_of_levels (map shared_rows runs.items) ++ rows_of_levels (map shared_rows more.items)) }
+    ensures { IfOk result (λ all. rows_of_levels (map shared_rows all.items)
+        ≡ rows_of_levels (map shared_rows runs.items) ++ rows_of_levels (map shared_rows more.items)) }
 {
     let mut all = runs;
     for run in more {

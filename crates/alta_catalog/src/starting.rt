@@ -55,7 +55,8 @@ fn tally_rows(start: Tally, rows: &[DocRow], gone: &Deletions) -> Tally
     requires stand { AreDocuments rows.now }
     requires documents { start.documents + cells_in rows.now < 2 ^ 64 }
     requires words { start.words + cells_in rows.now < 2 ^ 64 }
-    ensures tally { (before : List DocRow) → IsTally gone.now before start → IsTally gone.now (before ++ rows.now) result }
+    ensures tally { (before : List DocRow) → IsTally gone.now before start
+        → IsTally gone.now (before ++ rows.now) result }
     ensures documents { result.documents ≤ start.documents + cells_in rows.now }
     ensures words { result.words ≤ start.words + cells_in rows.now }
 {
@@ -72,7 +73,8 @@ fn with_row(tally: Tally, row: &DocRow, gone: &Deletions) -> Tally
     requires below { end_in row.now < TOP }
     requires documents { tally.documents + row.now.cells < 2 ^ 64 }
     requires words { tally.words + row.now.cells < 2 ^ 64 }
-    ensures tally { (before : List DocRow) → IsTally gone.now before tally → IsTally gone.now (before ++ row.now ∷ []) result }
+    ensures tally { (before : List DocRow) → IsTally gone.now before tally
+        → IsTally gone.now (before ++ row.now ∷ []) result }
     ensures documents { result.documents ≤ tally.documents + row.now.cells }
     ensures words { result.words ≤ tally.words + row.now.cells }
 {

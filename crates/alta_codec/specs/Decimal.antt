@@ -9,7 +9,8 @@ value_of digits = fold (λ n b. n * 10 + (b - 48)) 0 digits
 
 -- one to so many digits, the first of them no 0, of a number up to a limit
 abbrev pub is_count : ℕ → ℕ → List ℕ → Bool
-is_count most limit digits = nat_le 1 (length digits) && nat_le (length digits) most && list_all is_ascii_digit digits && not (slice_index digits 0 == 48) && nat_le (value_of digits) limit
+is_count most limit digits = nat_le 1 (length digits) && nat_le (length digits) most && list_all is_ascii_digit digits
+    && not (slice_index digits 0 == 48) && nat_le (value_of digits) limit
 
 -- the number from 1 to a limit that the text spells
 unfoldable pub count_in : ℕ → ℕ → List ℕ → Option ℕ

@@ -91,7 +91,9 @@ fn get_long(bytes: &[u8], from: usize) -> Result<(u64, usize), CodeFault>
 
 /// Reading is the inverse of spelling: what is spelled is read, whatever follows, and what is read is spelled there.
 pub fn numbers_read_back()
-    ensures read { (at n : ℕ) → (more : List ℕ) → n < 2 ^ 64 → number_from 9 at (number_bytes n ++ more) ≡ Ok (n, at + length (number_bytes n)) }
-    ensures spelled { (at n e : ℕ) → (bytes : List ℕ) → ((i : ℕ) → i < length bytes → slice_index bytes i < 256) → number_from 9 at bytes ≡ Ok (n, e)
+    ensures read { (at n : ℕ) → (more : List ℕ) → n < 2 ^ 64 → number_from 9 at (number_bytes n ++ more)
+        ≡ Ok (n, at + length (number_bytes n)) }
+    ensures spelled { (at n e : ℕ) → (bytes : List ℕ) → ((i : ℕ) → i < length bytes → slice_index bytes i < 256)
+        → number_from 9 at bytes ≡ Ok (n, e)
         → (bytes ≡ number_bytes n ++ drop (e - at) bytes) × (e ≡ at + length (number_bytes n)) × (n < 2 ^ 64) }
 {}

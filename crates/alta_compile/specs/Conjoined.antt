@@ -63,7 +63,8 @@ is_some_word (t ∷ ts) = true
 
 -- the words of the members and the words against them, where each member is one or the other, and one is a word
 abbrev pub conjunction_in : Shapes → Option Conjunction
-conjunction_in qs = cond (are_words qs && is_some_word (words_in qs)) (Some (record { words = words_in qs; negated = words_against qs })) None
+conjunction_in qs = cond (are_words qs && is_some_word (words_in qs))
+    (Some (record { words = words_in qs; negated = words_against qs })) None
 
 -- a word is the conjunction of itself
 abbrev pub conjunction_of : Shape → Option Conjunction

@@ -31,12 +31,14 @@ AreApart low (d ∷ ds) = (low ≤ d.first) × (d.first < past d) × AreApart (p
 -- The documents' locations rise without meeting, from 1 to below TOP, and exactly the last cell of each is an end.
 pub record IsSpace (space : List Placed) : Type 0 where
   pub apart : AreApart 1 space
-  pub ended : (d : Placed) → Contains space d → (place : ℕ) → IsMet d.cells document_end place ↔ (place + 1 ≡ length d.cells)
+  pub ended : (d : Placed) → Contains space d → (place : ℕ) → IsMet d.cells document_end place
+      ↔ (place + 1 ≡ length d.cells)
 
 -- the locations of the cells that meet the test, the first cell being at this location
 unfoldable pub locations : Test → ℕ → List (List (List ℕ)) → List ℕ
 locations test at [] = []
-locations test at (cell ∷ cells) = cond (meets test cell) (at ∷ locations test (at + 1) cells) (locations test (at + 1) cells)
+locations test at (cell ∷ cells) = cond (meets test cell) (at ∷ locations test (at + 1) cells)
+    (locations test (at + 1) cells)
 
 -- the locations of a space whose cells meet the test, in rising order
 unfoldable pub list_of : List Placed → Test → List ℕ

@@ -57,7 +57,8 @@ fn plan(alloc: Global, query: &Query) -> Result<Plan, AllocError>
 
 /// The plan of an atom that stands alone.
 fn plan_alone(alloc: Global, atom: &Atom) -> Result<Plan, AllocError>
-    ensures { IfOk result (λ p. tree p ≡ atom_plan (pattern_of (atom_view atom.now)) (numbers_in (atom_view atom.now))) }
+    ensures { IfOk result (λ p. tree p ≡ atom_plan (pattern_of (atom_view atom.now))
+        (numbers_in (atom_view atom.now))) }
 {
     match atom.numbers() {
         Some(numbers) => plan_value(alloc, numbers),

@@ -103,7 +103,8 @@ fn some_word(words: Tests, negated: Tests) -> Option<Conjunction>
 
 /// Adds a member that is a word or a NOT of one, and answers whether it is.
 fn add(words: &mut Tests, negated: &mut Tests, member: &Query) -> Result<bool, AllocError>
-    ensures found { IfOk result (λ b. b ≡ (is_some (word_in (shape member.now)) || is_some (word_against (shape member.now)))) }
+    ensures found { IfOk result (λ b. b ≡ (is_some (word_in (shape member.now))
+        || is_some (word_against (shape member.now)))) }
     ensures words { OnOk result (words.new ≡ words.old ++ listed (word_in (shape member.now))) }
     ensures negated { OnOk result (negated.new ≡ negated.old ++ listed (word_against (shape member.now))) }
 {

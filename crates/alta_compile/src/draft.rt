@@ -159,7 +159,11 @@ impl Draft {
     /// The plan of what was gathered.
     pub(crate) fn close(self, alloc: Global) -> Result<FoundPlan, AllocError>
         requires { IsNamed (suc (length self.tests.items)) self.bounds.items }
-        ensures { IfOk result (λ f. f ≡ record { tests = self.tests.items; bounds = held (length self.tests.items) ++ self.bounds.items }) }
+        ensures { IfOk result (λ f. f ≡ record {
+          tests = self.tests.items;
+          bounds = held (length self.tests.items)
+              ++ self.bounds.items;
+        }) }
     {
         let Draft { tests, bounds } = self;
         let mut all = Vec::with_capacity(alloc, bounds.len())?;

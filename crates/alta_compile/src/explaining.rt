@@ -49,7 +49,8 @@ fn text_of(alloc: Global, bytes: Vec<u8>) -> Result<String, AllocError>
 /// The lines of a node and of all below it, behind the margin.
 #[cycle(explaining)]
 fn put_plan(out: &mut Vec<u8>, margin: &mut Vec<u8>, plan: &Plan) -> Result<(), AllocError>
-    ensures { OnOk result (PutsBehind margin.old.items margin.new.items (explained margin.old.items (tree plan.now)) out.old.items out.new.items) }
+    ensures { OnOk result (PutsBehind margin.old.items margin.new.items
+        (explained margin.old.items (tree plan.now)) out.old.items out.new.items) }
 {
     match plan {
         Plan::Found(found) => put_found(out, margin, found),
@@ -62,7 +63,8 @@ fn put_plan(out: &mut Vec<u8>, margin: &mut Vec<u8>, plan: &Plan) -> Result<(), 
 /// The lines of an AllOf.
 #[cycle(explaining)]
 fn put_all(out: &mut Vec<u8>, margin: &mut Vec<u8>, parts: &[Plan]) -> Result<(), AllocError>
-    ensures { OnOk result (PutsBehind margin.old.items margin.new.items (explained margin.old.items (all_of (trees_of (map tree parts.now)))) out.old.items out.new.items) }
+    ensures { OnOk result (PutsBehind margin.old.items margin.new.items
+        (explained margin.old.items (all_of (trees_of (map tree parts.now)))) out.old.items out.new.items) }
 {
     put_head(out, margin, b"all ", parts.len())?;
     put_parts(out, margin, parts)?;
@@ -72,7 +74,8 @@ fn put_all(out: &mut Vec<u8>, margin: &mut Vec<u8>, parts: &[Plan]) -> Result<()
 /// The lines of an AnyOf.
 #[cycle(explaining)]
 fn put_any(out: &mut Vec<u8>, margin: &mut Vec<u8>, parts: &[Plan]) -> Result<(), AllocError>
-    ensures { OnOk result (PutsBehind margin.old.items margin.new.items (explained margin.old.items (any_of (trees_of (map tree parts.now)))) out.old.items out.new.items) }
+    ensures { OnOk result (PutsBehind margin.old.items margin.new.items
+        (explained margin.old.items (any_of (trees_of (map tree parts.now)))) out.old.items out.new.items) }
 {
     put_head(out, margin, b"any ", parts.len())?;
     put_parts(out, margin, parts)?;
@@ -82,7 +85,8 @@ fn put_any(out: &mut Vec<u8>, margin: &mut Vec<u8>, parts: &[Plan]) -> Result<()
 /// The lines of a Without.
 #[cycle(explaining)]
 fn put_not(out: &mut Vec<u8>, margin: &mut Vec<u8>, part: &Plan) -> Result<(), AllocError>
-    ensures { OnOk result (PutsBehind margin.old.items margin.new.items (explained margin.old.items (without (tree part.now))) out.old.items out.new.items) }
+    ensures { OnOk result (PutsBehind margin.old.items margin.new.items
+        (explained margin.old.items (without (tree part.now))) out.old.items out.new.items) }
 {
     out.extend_from_slice(margin)?;
     out.extend_from_slice(b"not\n")?;
@@ -95,7 +99,8 @@ fn put_not(out: &mut Vec<u8>, margin: &mut Vec<u8>, part: &Plan) -> Result<(), A
 /// The lines of the parts of a node, one level deeper.
 #[cycle(explaining)]
 fn put_parts(out: &mut Vec<u8>, margin: &mut Vec<u8>, parts: &[Plan]) -> Result<(), AllocError>
-    ensures { OnOk result (PutsBehind margin.old.items margin.new.items (explained_each (deeper margin.old.items) (trees_of (map tree parts.now))) out.old.items out.new.items) }
+    ensures { OnOk result (PutsBehind margin.old.items margin.new.items
+        (explained_each (deeper margin.old.items) (trees_of (map tree parts.now))) out.old.items out.new.items) }
 {
     margin.extend_from_slice(b"  ")?;
     for part in parts {

@@ -31,12 +31,14 @@ pub fn one_atom()
 /// A list of atoms: the bounds of all of them together find exactly the documents that satisfy each.
 pub fn atoms_as_one()
     ensures { (space : List Placed) (d : Placed) (atoms : List Atom) → IsSpace space → Contains space d
-        → Contains (plan_list space (found (found_of (joint_pattern (map pattern_of atoms))))) (end_of d) ↔ SatisfiesEach d.cells (map pattern_of atoms) }
+        → Contains (plan_list space (found (found_of (joint_pattern (map pattern_of atoms))))) (end_of d)
+        ↔ SatisfiesEach d.cells (map pattern_of atoms) }
 {}
 
 /// An AllOf has what all its parts have.
 pub fn all_parts()
-    ensures { (list : List ℕ) (lists : List (List ℕ)) (e : ℕ) → Contains (common (list ∷ lists)) e ↔ All (λ l. Contains l e) (list ∷ lists) }
+    ensures { (list : List ℕ) (lists : List (List ℕ)) (e : ℕ) → Contains (common (list ∷ lists)) e
+        ↔ All (λ l. Contains l e) (list ∷ lists) }
 {}
 
 /// An AnyOf has what some of its parts has.
@@ -60,9 +62,11 @@ pub fn finds_what_matches()
 /// Numbers: in each space the end of a document whose cells a name, a title and a body make is in the list of the plan of a value
 /// exactly where a word of title or body is a number from the value's first to its last.
 pub fn a_plan_finds_numbers()
-    ensures { (space : List Placed) (d : Placed) (name title body : List ℕ) (low high : ℕ) → IsSpace space → Contains space d
+    ensures { (space : List Placed) (d : Placed) (name title body : List ℕ) (low high : ℕ)
+        → IsSpace space → Contains space d
         → d.cells ≡ cells_of name title body → IsUtf8 title → IsUtf8 body → high < 2 ^ 32
-        → Contains (plan_list space (plan_of (atom (lone (value low high))))) (end_of d) ↔ HasNumber low high title body }
+        → Contains (plan_list space (plan_of (atom (lone (value low high))))) (end_of d)
+        ↔ HasNumber low high title body }
 {}
 
 /// The plan of a query whose terms are UTF-8, but for those of its values' ranges, in words, is UTF-8. So are the terms of each
@@ -73,13 +77,15 @@ pub fn a_plan_is_text()
 
 /// In words, a range of numbers is its level and its prefix.
 pub fn a_range_is_shown()
-    ensures { (r : Range) → IsRange r → test_text (range_test r) ≡ codes "#" ++ decimal r.level ++ codes ":" ++ decimal r.prefix }
+    ensures { (r : Range) → IsRange r → test_text (range_test r) ≡ codes "#" ++ decimal r.level ++ codes ":"
+        ++ decimal r.prefix }
 {}
 
 /// A plan's list rises, and holds ends of documents alone.
 pub fn a_plan_lists_ends()
     ensures rises { (space : List Placed) (t : Tree) → IsSpace space → IsRising (plan_list space t) }
-    ensures ends { (space : List Placed) (t : Tree) (e : ℕ) → IsSpace space → Contains (plan_list space t) e → Contains (ends_of space) e }
+    ensures ends { (space : List Placed) (t : Tree) (e : ℕ) → IsSpace space → Contains (plan_list space t) e
+        → Contains (ends_of space) e }
 {}
 
 /// The plan of a query that some text is read as has a part in each AllOf and each AnyOf.

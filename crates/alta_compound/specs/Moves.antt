@@ -11,7 +11,8 @@ pub record GoesTo {R : Type 0} (list all : R → List ℕ) (location : R → ℕ
 
 -- The new readers are the old ones, in another order: each that stood before the place went on to it, and each other
 -- one is as it was.
-pub record MovesThoseBefore {R : Type 0} (list all : R → List ℕ) (location : R → ℕ) (to : ℕ) (old new : List R) : Type 0 where
+pub record MovesThoseBefore {R : Type 0} (list all : R → List ℕ) (location : R → ℕ) (to : ℕ)
+    (old new : List R) : Type 0 where
   pub from : List R
   pub ordered : IsPermutation old from
   pub sized : length from ≡ length new

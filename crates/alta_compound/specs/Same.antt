@@ -20,7 +20,8 @@ unfolding insert_before count_from
 insert_before-count x [] t = refl
 insert_before-count x (y ∷ ys) t = grind (arith, insert_before-count x ys t)
 
-cons_count : (x : ℕ) (xs ys : List ℕ) (t : ℕ) → count_from xs t ≡ count_from ys t → count_from (x ∷ xs) t ≡ count_from (x ∷ ys) t
+cons_count : (x : ℕ) (xs ys : List ℕ) (t : ℕ) → count_from xs t ≡ count_from ys t
+    → count_from (x ∷ xs) t ≡ count_from (x ∷ ys) t
 unfolding count_from
 cons_count x xs ys t e = grind (arith, e)
 
@@ -36,7 +37,8 @@ count_has [] z h = absurd (omega arith)
 count_has (y ∷ ys) z h =
     ⊎_elim (λ lt. Contains-tail y ys z (count_has ys z (grind (arith, h, lt))))
     (λ ge. ⊎_elim (λ gt. Contains-tail y ys z (count_has ys z (grind (arith, h, gt))))
-    (λ le. let e : y ≡ z = omega arith in subst (λ v. Contains (y ∷ ys) v) e (Contains-head y ys)) (cases_lt z y)) (cases_lt y z)
+    (λ le. let e : y ≡ z = omega arith in subst (λ v. Contains (y ∷ ys) v) e (Contains-head y ys))
+    (cases_lt z y)) (cases_lt y z)
 
 alike : (xs ys : List ℕ) (z : ℕ) → ((t : ℕ) → count_from xs t ≡ count_from ys t) → Contains xs z → Contains ys z
 alike xs ys z e m = count_has ys z (omega (arith, e z, e (z + 1), count_from-falls xs z (z + 1) m (omega arith)))

@@ -10,7 +10,9 @@ use Rattle.alta_compound.specs.Union.{put, union}
 put-cases : (x y : ℕ) (ys : List ℕ)
     → (put x (y ∷ ys) ≡ x ∷ y ∷ ys) ⊎ ((put x (y ∷ ys) ≡ y ∷ put x ys) ⊎ ((put x (y ∷ ys) ≡ y ∷ ys) × (x ≡ y)))
 unfolding put
-put-cases x y ys = ⊎_elim (λ l. inl (grind (arith, l))) (λ ge. ⊎_elim (λ l. inr (inl (grind (arith, l)))) (λ le. inr (inr (grind (arith, le), omega arith))) (cases_lt y x)) (cases_lt x y)
+put-cases x y ys = ⊎_elim (λ l. inl (grind (arith, l)))
+    (λ ge. ⊎_elim (λ l. inr (inl (grind (arith, l)))) (λ le. inr (inr (grind (arith, le), omega arith)))
+    (cases_lt y x)) (cases_lt x y)
 
 put-nil : (x : ℕ) → put x [] ≡ x ∷ []
 unfolding put
@@ -34,7 +36,8 @@ union-first (x ∷ xs) ys t = grind (arith, put-first x (union xs ys) t, union-f
 
 -- membership
 put-has : (x : ℕ) (ys : List ℕ) (z : ℕ) → Contains (put x ys) z → (x ≡ z) ⊎ Contains ys z
-put-has x [] z m = ⊎_elim (λ e. inl e) (λ n. absurd (not-Contains-nil z n)) (Contains-cases x [] z (subst (λ l. Contains l z) (put-nil x) m))
+put-has x [] z m = ⊎_elim (λ e. inl e) (λ n. absurd (not-Contains-nil z n))
+    (Contains-cases x [] z (subst (λ l. Contains l z) (put-nil x) m))
 put-has x (y ∷ ys) z m =
     ⊎_elim (λ e. Contains-cases x (y ∷ ys) z (subst (λ l. Contains l z) e m))
     (λ rest. ⊎_elim
@@ -45,9 +48,12 @@ put-has x (y ∷ ys) z m =
     (put-cases x y ys)
 
 put-keeps : (x : ℕ) (ys : List ℕ) (z : ℕ) → (x ≡ z) ⊎ Contains ys z → Contains (put x ys) z
-put-keeps x [] z m = ⊎_elim (λ e. subst (λ l. Contains l z) (sym (put-nil x)) (subst (λ v. Contains (x ∷ []) v) e (Contains-head x []))) (λ n. absurd (not-Contains-nil z n)) m
+put-keeps x [] z m = ⊎_elim (λ e. subst (λ l. Contains l z) (sym (put-nil x))
+    (subst (λ v. Contains (x ∷ []) v) e (Contains-head x []))) (λ n. absurd (not-Contains-nil z n)) m
 put-keeps x (y ∷ ys) z m =
-    ⊎_elim (λ e. subst (λ l. Contains l z) (sym e) (⊎_elim (λ h. subst (λ v. Contains (x ∷ y ∷ ys) v) h (Contains-head x (y ∷ ys))) (λ n. Contains-tail x (y ∷ ys) z n) m))
+    ⊎_elim (λ e. subst (λ l. Contains l z) (sym e)
+    (⊎_elim (λ h. subst (λ v. Contains (x ∷ y ∷ ys) v) h (Contains-head x (y ∷ ys)))
+    (λ n. Contains-tail x (y ∷ ys) z n) m))
     (λ rest. ⊎_elim
     (λ e. subst (λ l. Contains l z) (sym e)
     (⊎_elim (λ h. Contains-tail y (put x ys) z (put-keeps x ys z (inl h)))
@@ -83,7 +89,8 @@ unfolding put
 put-rises low x [] h t r = (h, t, tt)
 put-rises low x (y ∷ ys) h t (l, b, r) =
     ⊎_elim (λ lt. rw (nat_lt-yes x y lt) (h, t, (lt, b, r)))
-    (λ ge. ⊎_elim (λ lt. rw (nat_lt-no x y ge, nat_lt-yes y x lt) (l, b, put-rises y x ys lt t r)) (λ le. rw (nat_lt-no x y ge, nat_lt-no y x le) (l, b, r)) (cases_lt y x))
+    (λ ge. ⊎_elim (λ lt. rw (nat_lt-no x y ge, nat_lt-yes y x lt) (l, b, put-rises y x ys lt t r))
+    (λ le. rw (nat_lt-no x y ge, nat_lt-no y x le) (l, b, r)) (cases_lt y x))
     (cases_lt x y)
 
 low_head : (y : ℕ) (ys : List ℕ) → IsRising (y ∷ ys) → IsRising ys
@@ -93,7 +100,8 @@ low_head y ys r = record {
   below = λ i w. r.below (suc i) (omega arith);
 }
 
-pub rises_above_from : (low : ℕ) (ys : List ℕ) → IsRising ys → ((i : ℕ) → i < length ys → low < get_or ys i 0) → RisesAbove low ys
+pub rises_above_from : (low : ℕ) (ys : List ℕ) → IsRising ys
+    → ((i : ℕ) → i < length ys → low < get_or ys i 0) → RisesAbove low ys
 rises_above_from low [] r h = tt
 rises_above_from low (y ∷ ys) r h = (
   h zero (omega arith),
@@ -101,13 +109,15 @@ rises_above_from low (y ∷ ys) r h = (
   rises_above_from y ys (low_head y ys r) (λ i w. r.rising zero (suc i) (omega arith) (omega arith)),
 )
 
-rises_above_each : (low : ℕ) (ys : List ℕ) → RisesAbove low ys → (i : ℕ) → i < length ys → (low < get_or ys i 0) × (get_or ys i 0 < TOP)
+rises_above_each : (low : ℕ) (ys : List ℕ) → RisesAbove low ys → (i : ℕ) → i < length ys
+    → (low < get_or ys i 0) × (get_or ys i 0 < TOP)
 rises_above_each low [] r i l = absurd (omega arith)
 rises_above_each low (y ∷ ys) (a, b, r) zero l = (a, b)
 rises_above_each low (y ∷ ys) (a, b, r) (suc i) l =
     let (c, d) = rises_above_each y ys r i (omega arith) in (omega arith, d)
 
-rises_above_pair : (low : ℕ) (ys : List ℕ) → RisesAbove low ys → (i j : ℕ) → i < j → j < length ys → get_or ys i 0 < get_or ys j 0
+rises_above_pair : (low : ℕ) (ys : List ℕ) → RisesAbove low ys → (i j : ℕ) → i < j → j < length ys
+    → get_or ys i 0 < get_or ys j 0
 rises_above_pair low [] r i j h l = absurd (omega arith)
 rises_above_pair low (y ∷ ys) (a, b, r) zero zero h l = absurd (omega arith)
 rises_above_pair low (y ∷ ys) (a, b, r) zero (suc j) h l = (rises_above_each y ys r j (omega arith)).0
@@ -129,7 +139,8 @@ unfolding union
 union-rises [] ys low a b = b
 union-rises (x ∷ xs) ys low (a, t, r) b = put-rises 0 x (union xs ys) (omega arith) t (union-rises xs ys x r b)
 
-pub count_same : (all : List ℕ) (m y : ℕ) → m ≤ y → ((z : ℕ) → Contains all z → m ≤ z → y ≤ z) → count_from all y ≡ count_from all m
+pub count_same : (all : List ℕ) (m y : ℕ) → m ≤ y → ((z : ℕ) → Contains all z → m ≤ z → y ≤ z)
+    → count_from all y ≡ count_from all m
 unfolding count_from
 count_same [] m y h gap = refl
 count_same (z ∷ zs) m y h gap =

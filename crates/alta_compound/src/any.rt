@@ -32,7 +32,8 @@ fn seek_before<R: BackReader, L: Ledger>(
     requires heap { IsHeapFrom 0 (map R.location readers.old) }
     requires above { at < to }
     requires top { to ≤ TOP }
-    ensures moves { MoveOn R.sound R.left (MovesThoseBefore R.list R.all R.location to) readers.old readers.new steps.old steps.new }
+    ensures moves { MoveOn R.sound R.left (MovesThoseBefore R.list R.all R.location to) readers.old readers.new
+        steps.old steps.new }
     ensures heap { IsHeapFrom 0 (map R.location readers.new) }
     ensures last { result ≡ pred_of (union_of (map R.list readers.old)) to }
     ensures spent { steps.new ≤ steps.old + sum_by (cost_before R.cost R.location to) readers.old }
@@ -73,7 +74,8 @@ fn go<R: BackReader, L: Ledger>(
     requires heap { IsHeapFrom 0 (map R.location readers.old) }
     requires above { at < to }
     requires top { to ≤ TOP }
-    ensures moves { MoveOn R.sound R.left (MovesThoseBefore R.list R.all R.location to) readers.old readers.new steps.old steps.new }
+    ensures moves { MoveOn R.sound R.left (MovesThoseBefore R.list R.all R.location to) readers.old readers.new
+        steps.old steps.new }
     ensures union { IsUnion R.list R.location readers.new result.0 result.1 }
     ensures list { union_of (map R.list readers.new) ≡ union_of (map R.list readers.old) }
     ensures all { gathered (map R.all readers.new) ≡ gathered (map R.all readers.old) }
@@ -94,7 +96,8 @@ impl<R: BackReader> AnyReader<R> {
         ensures list { ⟦<AnyReader<R> as Reader>⟧.list result ≡ union_of (map R.list readers.items) }
         ensures all { ⟦<AnyReader<R> as Reader>⟧.all result ≡ gathered (map R.all readers.items) }
         ensures left { ⟦<AnyReader<R> as Reader>⟧.left result ≡ sum_by R.left readers.items }
-        ensures unmoved { ⟦<AnyReader<R> as Reader>⟧.location result ≡ first_from (union_of (map R.list readers.items)) 0 }
+        ensures unmoved { ⟦<AnyReader<R> as Reader>⟧.location result
+            ≡ first_from (union_of (map R.list readers.items)) 0 }
         ensures readers { IsPermutation readers.items (readers_of result) }
     {
         let mut readers = readers;
@@ -133,12 +136,16 @@ impl<R: BackReader> Reader for AnyReader<R> {
         ensures sound { ⟦<AnyReader<R> as Reader>⟧.sound self.new }
         ensures list { ⟦<AnyReader<R> as Reader>⟧.list self.new ≡ ⟦<AnyReader<R> as Reader>⟧.list self.old }
         ensures all { ⟦<AnyReader<R> as Reader>⟧.all self.new ≡ ⟦<AnyReader<R> as Reader>⟧.all self.old }
-        ensures location { ⟦<AnyReader<R> as Reader>⟧.location self.new ≡ first_from (⟦<AnyReader<R> as Reader>⟧.list self.old) (⟦<AnyReader<R> as Reader>⟧.location self.old + 1) }
+        ensures location { ⟦<AnyReader<R> as Reader>⟧.location self.new
+            ≡ first_from (⟦<AnyReader<R> as Reader>⟧.list self.old) (⟦<AnyReader<R> as Reader>⟧.location self.old + 1) }
         ensures falls { ⟦<AnyReader<R> as Reader>⟧.left self.new < ⟦<AnyReader<R> as Reader>⟧.left self.old }
-        ensures steps { steps.new + ⟦<AnyReader<R> as Reader>⟧.left self.new ≤ steps.old + ⟦<AnyReader<R> as Reader>⟧.left self.old }
+        ensures steps { steps.new + ⟦<AnyReader<R> as Reader>⟧.left self.new
+            ≤ steps.old + ⟦<AnyReader<R> as Reader>⟧.left self.old }
         ensures cost { steps.new ≤ steps.old + ⟦<AnyReader<R> as Reader>⟧.cost self.old }
-        ensures spent { steps.new ≤ steps.old + sum_by (cost_before R.cost R.location (⟦<AnyReader<R> as Reader>⟧.location self.old + 1)) (readers_of self.old) }
-        ensures moved { MovesThoseBefore R.list R.all R.location (⟦<AnyReader<R> as Reader>⟧.location self.old + 1) (readers_of self.old) (readers_of self.new) }
+        ensures spent { steps.new ≤ steps.old + sum_by
+            (cost_before R.cost R.location (⟦<AnyReader<R> as Reader>⟧.location self.old + 1)) (readers_of self.old) }
+        ensures moved { MovesThoseBefore R.list R.all R.location (⟦<AnyReader<R> as Reader>⟧.location self.old + 1)
+            (readers_of self.old) (readers_of self.new) }
     {
         (self.at, self.before) = go(&mut self.readers, self.at, self.at + 1, steps);
     }
@@ -152,9 +159,11 @@ impl<R: BackReader> Reader for AnyReader<R> {
         ensures sound { ⟦<AnyReader<R> as Reader>⟧.sound self.new }
         ensures list { ⟦<AnyReader<R> as Reader>⟧.list self.new ≡ ⟦<AnyReader<R> as Reader>⟧.list self.old }
         ensures all { ⟦<AnyReader<R> as Reader>⟧.all self.new ≡ ⟦<AnyReader<R> as Reader>⟧.all self.old }
-        ensures location { ⟦<AnyReader<R> as Reader>⟧.location self.new ≡ first_from (⟦<AnyReader<R> as Reader>⟧.list self.old) to }
+        ensures location { ⟦<AnyReader<R> as Reader>⟧.location self.new
+            ≡ first_from (⟦<AnyReader<R> as Reader>⟧.list self.old) to }
         ensures falls { ⟦<AnyReader<R> as Reader>⟧.left self.new < ⟦<AnyReader<R> as Reader>⟧.left self.old }
-        ensures steps { steps.new + ⟦<AnyReader<R> as Reader>⟧.left self.new ≤ steps.old + ⟦<AnyReader<R> as Reader>⟧.left self.old }
+        ensures steps { steps.new + ⟦<AnyReader<R> as Reader>⟧.left self.new
+            ≤ steps.old + ⟦<AnyReader<R> as Reader>⟧.left self.old }
         ensures cost { steps.new ≤ steps.old + ⟦<AnyReader<R> as Reader>⟧.cost self.old }
         ensures spent { steps.new ≤ steps.old + sum_by (cost_before R.cost R.location to) (readers_of self.old) }
         ensures moved { MovesThoseBefore R.list R.all R.location to (readers_of self.old) (readers_of self.new) }
@@ -162,7 +171,8 @@ impl<R: BackReader> Reader for AnyReader<R> {
         (self.at, self.before) = go(&mut self.readers, self.at, to, steps);
     }
 
-    ghost rises = { λ s h. union_of-rises R.list s.readers.items (λ k d l. R.rises (slice_index_or s.readers.items k d) (h.0 k d l)) };
+    ghost rises = { λ s h. union_of-rises R.list s.readers.items
+        (λ k d l. R.rises (slice_index_or s.readers.items k d) (h.0 k d l)) };
 
     ghost stands = { λ s h. in_step_place R.list R.location s.readers.items s.at h.1.in_step };
 }
@@ -172,7 +182,10 @@ impl<R: BackReader> BackReader for AnyReader<R> {
         self.before
     }
 
-    ghost members = { λ s h. gathered-members R.list R.all s.readers.items (λ k d l. R.members (slice_index_or s.readers.items k d) (h.0 k d l)) };
+    ghost members = { λ s h. gathered-members R.list R.all s.readers.items
+        (λ k d l. R.members (slice_index_or s.readers.items k d) (h.0 k d l)) };
 
-    ghost left_is = { λ s h. gathered-left R.list R.all R.location R.left s.readers.items s.at h.1.in_step (λ k d l. R.members (slice_index_or s.readers.items k d) (h.0 k d l)) (λ k d l. R.left_is (slice_index_or s.readers.items k d) (h.0 k d l)) };
+    ghost left_is = { λ s h. gathered-left R.list R.all R.location R.left s.readers.items s.at h.1.in_step
+        (λ k d l. R.members (slice_index_or s.readers.items k d) (h.0 k d l))
+        (λ k d l. R.left_is (slice_index_or s.readers.items k d) (h.0 k d l)) };
 }

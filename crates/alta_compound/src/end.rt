@@ -36,7 +36,8 @@ impl<R: BackReader> EndReader<R> {
     /// The first location after the previous document: one past the end before the place, 1 where there is none.
     pub fn start(&self) -> Loc
         requires { ⟦<EndReader<R> as Reader>⟧.sound self.now }
-        ensures { result ≡ pred_of (⟦<EndReader<R> as Reader>⟧.list self.now) (⟦<EndReader<R> as Reader>⟧.location self.now) + 1 }
+        ensures { result ≡ pred_of (⟦<EndReader<R> as Reader>⟧.list self.now)
+            (⟦<EndReader<R> as Reader>⟧.location self.now) + 1 }
     {
         self.inner.prev() + 1
     }

@@ -19,7 +19,8 @@ fn lesser_child<R: BackReader>(readers: &[R], at: usize) -> usize
     requires some { 2 * at + 1 < length readers.now }
     ensures child { IsChild at result }
     ensures within { result < length readers.now }
-    ensures least { (c : ℕ) → IsChild at c → c < length readers.now → slice_index (map R.location readers.now) result ≤ slice_index (map R.location readers.now) c }
+    ensures least { (c : ℕ) → IsChild at c → c < length readers.now
+        → slice_index (map R.location readers.now) result ≤ slice_index (map R.location readers.now) c }
 {
     let end = readers.len() - 1;
     let left = 2 * at + 1;
@@ -86,10 +87,12 @@ pub(crate) fn move_first<R: BackReader, L: Ledger>(
     requires some { 0 < length readers.old }
     requires before { slice_index (map R.location readers.old) 0 < to }
     requires top { to ≤ TOP }
-    ensures moves { MoveOn R.sound R.left (MovesFirst R.list R.all R.location to) readers.old readers.new steps.old steps.new }
+    ensures moves { MoveOn R.sound R.left (MovesFirst R.list R.all R.location to) readers.old readers.new
+        steps.old steps.new }
     ensures heap { IsHeapFrom 0 (map R.location readers.new) }
     ensures last { result ≡ pred_of (slice_index_or (map R.list readers.old) 0 []) to }
-    ensures cost { steps.new + sum_by (cost_before R.cost R.location to) readers.new ≤ steps.old + sum_by (cost_before R.cost R.location to) readers.old }
+    ensures cost { steps.new + sum_by (cost_before R.cost R.location to) readers.new
+        ≤ steps.old + sum_by (cost_before R.cost R.location to) readers.old }
 {
     readers[0].seek(to, steps);
     let last = readers[0].prev();

@@ -6,7 +6,8 @@ use Rattle.alta_codec.specs.Bytes.{Lacks}
 -- the lines that end in these bytes, where `begun` stands before them since the last newline
 abbrev pub whole_from : List ℕ → List ℕ → List (List ℕ)
 whole_from begun [] = []
-whole_from begun (byte ∷ bytes) = if byte == 10 then begun ∷ whole_from [] bytes else whole_from (begun ++ byte ∷ []) bytes
+whole_from begun (byte ∷ bytes) = if byte == 10 then begun ∷ whole_from [] bytes
+    else whole_from (begun ++ byte ∷ []) bytes
 
 -- what has come of the next line behind these bytes
 abbrev pub begun_from : List ℕ → List ℕ → List ℕ

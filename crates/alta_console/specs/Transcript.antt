@@ -23,7 +23,8 @@ taken_in (Given piece ∷ events) = taken_in events
 -- the bytes taken, joined, up to the piece that brings them past the limit, and without it
 abbrev pub taken_within : ℕ → List Event → List ℕ
 taken_within limit [] = []
-taken_within limit (Taken piece ∷ events) = if nat_le (length piece) limit then piece ++ taken_within (limit - length piece) events else []
+taken_within limit (Taken piece ∷ events) = if nat_le (length piece) limit
+    then piece ++ taken_within (limit - length piece) events else []
 taken_within limit (Ended ∷ events) = taken_within limit events
 taken_within limit (Given piece ∷ events) = taken_within limit events
 
@@ -36,7 +37,8 @@ has_ended (Given piece ∷ events) = has_ended events
 
 -- the lines taken: those that end at a newline, and a last one that does not once the input has ended
 abbrev pub lines_in : ℕ → List Event → List (List ℕ)
-lines_in limit events = if has_ended events then lines_of (taken_within limit events) else whole (taken_within limit events)
+lines_in limit events = if has_ended events then lines_of (taken_within limit events)
+    else whole (taken_within limit events)
 
 -- the event at this place is a take
 abbrev pub TakesAt : List Event → ℕ → Type 0

@@ -85,9 +85,11 @@ impl Console for MemoryConsole {
     fn take(&mut self, buf: &mut [u8]) -> Result<usize, Failed>
         requires { 0 < length buf.old }
         ensures within { IfOk result (λ n. n ≤ length buf.new) }
-        ensures size { IfOk result (λ n. n ≡ piece_size (sizes_left self.old) (length buf.old) (length (input_left self.old))) }
+        ensures size { IfOk result (λ n. n ≡ piece_size (sizes_left self.old) (length buf.old)
+            (length (input_left self.old))) }
         ensures end { IfOk result (λ n. (n ≡ 0) ↔ (input_left self.old ≡ [])) }
-        ensures taken { IfOk result (λ n. 0 < n → transcript self.new ≡ transcript self.old ++ Taken (take n buf.new) ∷ []) }
+        ensures taken { IfOk result (λ n. 0 < n
+            → transcript self.new ≡ transcript self.old ++ Taken (take n buf.new) ∷ []) }
         ensures ended { IfOk result (λ n. n ≡ 0 → transcript self.new ≡ transcript self.old ++ Ended ∷ []) }
         ensures input { IfOk result (λ n. input_left self.old ≡ take n buf.new ++ input_left self.new) }
         ensures sizes { OnOk result (sizes_left self.new ≡ drop 1 (sizes_left self.old)) }
@@ -163,7 +165,8 @@ fn taken_event(alloc: Global, piece: &[u8]) -> Result<Event, AllocError>
 
 // Notes what a take found.
 fn record_taken(alloc: Global, events: &mut Vec<Event>, piece: &[u8]) -> Result<(), AllocError>
-    ensures piece { OnOk result (0 < length piece.now → events.new.items ≡ events.old.items ++ Event.Taken piece.now ∷ []) }
+    ensures piece { OnOk result (0 < length piece.now → events.new.items
+        ≡ events.old.items ++ Event.Taken piece.now ∷ []) }
     ensures end { OnOk result (length piece.now ≡ 0 → events.new.items ≡ events.old.items ++ Event.Ended ∷ []) }
     ensures given { OnOk result (given_in events.new.items ≡ given_in events.old.items) }
     ensures err { OnErr result (events.new.items ≡ events.old.items) }
@@ -181,7 +184,8 @@ fn record_given(
     piece: &[u8],
 ) -> Result<(), AllocError>
     ensures events { OnOk result (events.new.items ≡ events.old.items ++ Event.Given piece.now ∷ []) }
-    ensures given { OnOk result (given.old.items ≡ given_in events.old.items → given.new.items ≡ given_in events.new.items) }
+    ensures given { OnOk result (given.old.items ≡ given_in events.old.items
+        → given.new.items ≡ given_in events.new.items) }
     ensures err { OnErr result ((events.new.items ≡ events.old.items) × (given.new.items ≡ given.old.items)) }
 {
     let event = Event::Given(Bytes::from_vec(Vec::from_slice(alloc, piece)?));

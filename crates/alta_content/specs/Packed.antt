@@ -46,7 +46,8 @@ pub record IsGathered (bytes : List ℕ) (count before last place : ℕ) (locati
 
 -- a list's term, behind its length, then how many locations it has, and how many bytes their gaps have
 abbrev pub row_bytes : TermList → List ℕ
-row_bytes l = number_bytes (length l.term) ++ (l.term ++ (number_bytes (length l.locations) ++ number_bytes (length (list_gaps l))))
+row_bytes l = number_bytes (length l.term)
+    ++ (l.term ++ (number_bytes (length l.locations) ++ number_bytes (length (list_gaps l))))
 
 -- ---- how they are read
 
@@ -62,7 +63,8 @@ leading_number bytes = number_read bytes (number_from 9 0 bytes)
 -- so many locations, each behind the one before
 abbrev pub locations_in : ℕ → ℕ → List ℕ → List ℕ
 locations_in zero before bytes = []
-locations_in (suc n) before bytes = ((before + (leading_number bytes).0) % 2 ^ 64) ∷ locations_in n ((before + (leading_number bytes).0) % 2 ^ 64) (leading_number bytes).1
+locations_in (suc n) before bytes = ((before + (leading_number bytes).0) % 2 ^ 64)
+    ∷ locations_in n ((before + (leading_number bytes).0) % 2 ^ 64) (leading_number bytes).1
 
 -- a row: the term, how many locations, how many bytes of gaps, and what stands behind it
 pub record Row : Type 0 where
@@ -82,7 +84,9 @@ row_in bytes =
 -- so many lists, of these rows and gaps
 abbrev pub lists_in : ℕ → List ℕ → List ℕ → List TermList
 lists_in zero rows gaps = []
-lists_in (suc n) rows gaps = (record { term = (row_in rows).term; locations = locations_in (row_in rows).count 0 gaps }) ∷ lists_in n (row_in rows).behind (drop (row_in rows).gaps gaps)
+lists_in (suc n) rows gaps =
+    (record { term = (row_in rows).term; locations = locations_in (row_in rows).count 0 gaps })
+    ∷ lists_in n (row_in rows).behind (drop (row_in rows).gaps gaps)
 
 -- ---- what holds of packed lists
 

@@ -63,7 +63,8 @@ RowsRise (row ∷ more) = IsPlaced row × All (λ r. end_of row < r.first) more 
 
 -- each document begins right behind the end of the one before, so that no location between the first and the last is left out
 abbrev pub AreJoined : List DocRow → Type 0
-AreJoined documents = (i : ℕ) → i + 1 < length documents → slice_index (firsts_of documents) (i + 1) ≡ slice_index (ends_of documents) i + 1
+AreJoined documents = (i : ℕ) → i + 1 < length documents → slice_index (firsts_of documents) (i + 1)
+    ≡ slice_index (ends_of documents) i + 1
 
 -- ---- rows that are left
 

@@ -37,4 +37,5 @@ outside_of spans locations = filter (λ x. not (is_within spans x)) locations
 -- the terms that have a location outside of the spans, each with those of its locations
 abbrev pub lists_outside : List Span → List TermList → List TermList
 lists_outside spans lists =
-    filter (λ l. nat_lt 0 (length l.locations)) (map (λ l. record { term = l.term; locations = outside_of spans l.locations }) lists)
+    filter (λ l. nat_lt 0 (length l.locations))
+    (map (λ l. record { term = l.term; locations = outside_of spans l.locations }) lists)

@@ -37,7 +37,8 @@ impl Model for LevelRows {
 
     ghost view = { λ r. r.rows.items };
 
-    ghost invariant = { λ r. (r.ends.items ≡ map end_of r.rows.items) × IsRising (map end_of r.rows.items) × AreRunsOf r.rows.items r.runs.firsts.items r.runs.ends.items };
+    ghost invariant = { λ r. (r.ends.items ≡ map end_of r.rows.items) × IsRising (map end_of r.rows.items)
+        × AreRunsOf r.rows.items r.runs.firsts.items r.runs.ends.items };
 }
 
 /// The location of a document's last cell.

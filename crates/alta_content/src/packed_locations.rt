@@ -41,7 +41,8 @@ impl Model for PackedLocations {
 
     ghost view = { λ p. locations_in p.count 0 p.gaps.items };
 
-    ghost invariant = { λ p. IsGathered p.gaps.items p.count p.before p.last p.place (locations_in p.count 0 p.gaps.items) };
+    ghost invariant = { λ p. IsGathered p.gaps.items p.count p.before p.last p.place
+        (locations_in p.count 0 p.gaps.items) };
 }
 
 impl MadeWith<Global> for PackedLocations {
@@ -74,7 +75,8 @@ impl PackedLocations {
     /// Adds the locations of a list behind the others. Where memory is wanting, these stay.
     pub fn put(&mut self, list: PackedList<'_>) -> Result<(), AllocError>
         requires { (locations : List ℕ) × AreGaps list.gaps.now list.count locations }
-        ensures { (locations : List ℕ) → AreGaps list.entry.gaps.now list.entry.count locations → Appends locations self.old self.new result }
+        ensures { (locations : List ℕ) → AreGaps list.entry.gaps.now list.entry.count locations
+            → Appends locations self.old self.new result }
     {
         let last = last_at(&self.gaps, self.place, self.last, self.count - self.before);
         let place = self.gaps.len();

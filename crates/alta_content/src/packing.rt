@@ -38,7 +38,8 @@ fn number_at(bytes: &[u8], at: usize) -> (u64, usize)
 pub(crate) fn term_at(rows: &[u8], at: usize) -> (&[u8], usize)
     requires { at ≤ length rows.now }
     ensures term { result.0.now ≡ (row_in (drop at rows.now)).term }
-    ensures behind { drop result.1 rows.now ≡ drop (leading_number (drop at rows.now)).0 (leading_number (drop at rows.now)).1 }
+    ensures behind { drop result.1 rows.now
+        ≡ drop (leading_number (drop at rows.now)).0 (leading_number (drop at rows.now)).1 }
     ensures within { result.1 ≤ length rows.now }
 {
     let (size, from) = number_at(rows, at);
@@ -71,7 +72,9 @@ pub(crate) fn put_row(
     count: u64,
     gaps: usize,
 ) -> Result<(), AllocError>
-    ensures { rows.new.items ≡ (if is_ok result then rows.old.items ++ (number_bytes (length term.now) ++ (term.now ++ (number_bytes count ++ number_bytes gaps))) else rows.old.items) }
+    ensures { rows.new.items ≡ (if is_ok result then rows.old.items
+        ++ (number_bytes (length term.now) ++ (term.now ++ (number_bytes count ++ number_bytes gaps)))
+        else rows.old.items) }
 {
     let start = rows.len();
     let done = append_row(rows, term, count, gaps);
@@ -83,7 +86,9 @@ pub(crate) fn put_row(
 
 // The same, where on want of memory a part may be appended.
 fn append_row(rows: &mut Vec<u8>, term: &[u8], count: u64, gaps: usize) -> Result<(), AllocError>
-    ensures row { OnOk result (rows.new.items ≡ rows.old.items ++ (number_bytes (length term.now) ++ (term.now ++ (number_bytes count ++ number_bytes gaps)))) }
+    ensures row { OnOk result (rows.new.items
+        ≡ rows.old.items ++ (number_bytes (length term.now)
+        ++ (term.now ++ (number_bytes count ++ number_bytes gaps)))) }
     ensures front { take (length rows.old.items) rows.new.items ≡ rows.old.items }
 {
     put_number(rows, term.len() as u64)?;

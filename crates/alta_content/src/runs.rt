@@ -35,8 +35,10 @@ fn last_joined(rows: &[DocRow], ends: &[Loc], start: usize) -> usize
     requires within { start < length rows.now }
     ensures after { start ≤ result }
     ensures within { result < length rows.now }
-    ensures joined { (k : ℕ) → start ≤ k → k < result → slice_index (firsts_of rows.now) (k + 1) ≡ slice_index (ends_of rows.now) k + 1 }
-    ensures parted { result + 1 < length rows.now → slice_index (ends_of rows.now) result + 1 ≡ slice_index (firsts_of rows.now) (result + 1) → ⊥ }
+    ensures joined { (k : ℕ) → start ≤ k → k < result → slice_index (firsts_of rows.now) (k + 1)
+        ≡ slice_index (ends_of rows.now) k + 1 }
+    ensures parted { result + 1 < length rows.now → slice_index (ends_of rows.now) result + 1
+        ≡ slice_index (firsts_of rows.now) (result + 1) → ⊥ }
 {
     let mut last = start;
     'joined: while last + 1 < rows.len() && rows[last + 1].first == ends[last] + 1 {
@@ -56,7 +58,8 @@ fn push_run(
     requires ends { ends.now ≡ map end_of rows.now }
     requires start { start < length rows.now }
     requires last { last < length rows.now }
-    ensures firsts { OnOk result (runs.new.firsts.items ≡ runs.old.firsts.items ++ slice_index (firsts_of rows.now) start ∷ []) }
+    ensures firsts { OnOk result (runs.new.firsts.items ≡ runs.old.firsts.items
+        ++ slice_index (firsts_of rows.now) start ∷ []) }
     ensures ends { OnOk result (runs.new.ends.items ≡ runs.old.ends.items ++ slice_index (ends_of rows.now) last ∷ []) }
 {
     runs.firsts.push(rows[start].first)?;

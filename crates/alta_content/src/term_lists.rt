@@ -37,7 +37,8 @@ impl Model for TermLists {
 
     ghost view = { λ a. lists_in a.count (drop a.row a.rows.items) (drop a.gap a.gaps.items) };
 
-    ghost invariant = { λ a. Packs (drop a.row a.rows.items) (drop a.gap a.gaps.items) (lists_in a.count (drop a.row a.rows.items) (drop a.gap a.gaps.items))
+    ghost invariant = { λ a. Packs (drop a.row a.rows.items) (drop a.gap a.gaps.items)
+        (lists_in a.count (drop a.row a.rows.items) (drop a.gap a.gaps.items))
         × (a.row ≤ length a.rows.items) × (a.gap ≤ length a.gaps.items) };
 }
 
@@ -105,7 +106,8 @@ impl TermLists {
     /// stay.
     pub fn put_spelled(&mut self, term: &[u8], count: u64, gaps: &[u8]) -> Result<(), AllocError>
         requires { (locations : List ℕ) × AreGaps gaps.now count locations }
-        ensures { (locations : List ℕ) → AreGaps gaps.now count locations → Pushes (record { term = term.now; locations = locations }) self.old self.new result }
+        ensures { (locations : List ℕ) → AreGaps gaps.now count locations
+            → Pushes (record { term = term.now; locations = locations }) self.old self.new result }
     {
         let before = self.gaps.len();
         self.gaps.extend_from_slice(gaps)?;
@@ -119,7 +121,8 @@ impl TermLists {
 
     /// The first term, None where there is none.
     pub fn first(&self) -> Option<&[u8]>
-        ensures { MatchOption result (self.now ≡ []) (λ term. (0 < length self.now) × (term.now ≡ front_term self.now)) }
+        ensures { MatchOption result (self.now ≡ []) (λ term. (0 < length self.now)
+            × (term.now ≡ front_term self.now)) }
     {
         if self.count == 0 {
             return None;

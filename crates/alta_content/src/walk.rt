@@ -22,11 +22,15 @@ struct Place {
 fn first_from(levels: &[Rc<LevelRows>], place: Place, end: Loc) -> Place
     requires rising { IsRising (ends_of (rows_of_levels (map shared_rows levels.now))) }
     requires place { IsPlace (map shared_rows levels.now) place.level place.before place.index }
-    requires passed { (k : ℕ) → k < place.before + place.index → slice_index (ends_of (rows_of_levels (map shared_rows levels.now))) k < end }
+    requires passed { (k : ℕ) → k < place.before + place.index
+        → slice_index (ends_of (rows_of_levels (map shared_rows levels.now))) k < end }
     ensures place { IsPlace (map shared_rows levels.now) result.level result.before result.index }
-    ensures before { (k : ℕ) → k < result.before + result.index → slice_index (ends_of (rows_of_levels (map shared_rows levels.now))) k < end }
-    ensures stands { result.level < length levels.now → result.index < length (slice_index_or (map shared_rows levels.now) result.level []) }
-    ensures here { result.level < length levels.now → end ≤ slice_index (ends_of (rows_of_levels (map shared_rows levels.now))) (result.before + result.index) }
+    ensures before { (k : ℕ) → k < result.before + result.index
+        → slice_index (ends_of (rows_of_levels (map shared_rows levels.now))) k < end }
+    ensures stands { result.level < length levels.now → result.index
+        < length (slice_index_or (map shared_rows levels.now) result.level []) }
+    ensures here { result.level < length levels.now
+        → end ≤ slice_index (ends_of (rows_of_levels (map shared_rows levels.now))) (result.before + result.index) }
 {
     let mut place = place;
     'levels: while place.level < levels.len() {
@@ -48,9 +52,12 @@ fn first_from(levels: &[Rc<LevelRows>], place: Place, end: Loc) -> Place
 fn index_of(levels: &[Rc<LevelRows>], place: Place, end: Loc) -> Option<usize>
     requires rising { IsRising (ends_of (rows_of_levels (map shared_rows levels.now))) }
     requires place { IsPlace (map shared_rows levels.now) place.level place.before place.index }
-    requires passed { (k : ℕ) → k < place.before + place.index → slice_index (ends_of (rows_of_levels (map shared_rows levels.now))) k < end }
-    requires stands { place.level < length levels.now → place.index < length (slice_index_or (map shared_rows levels.now) place.level []) }
-    requires here { place.level < length levels.now → end ≤ slice_index (ends_of (rows_of_levels (map shared_rows levels.now))) (place.before + place.index) }
+    requires passed { (k : ℕ) → k < place.before + place.index
+        → slice_index (ends_of (rows_of_levels (map shared_rows levels.now))) k < end }
+    requires stands { place.level < length levels.now → place.index
+        < length (slice_index_or (map shared_rows levels.now) place.level []) }
+    requires here { place.level < length levels.now
+        → end ≤ slice_index (ends_of (rows_of_levels (map shared_rows levels.now))) (place.before + place.index) }
     ensures inside { IfSome result (λ i. i < length (rows_of_levels (map shared_rows levels.now))) }
     ensures there { IfSome result (HoldsAt (λ r. end_of r ≡ end) (rows_of_levels (map shared_rows levels.now))) }
     ensures none { result ≡ None → Contains (ends_of (rows_of_levels (map shared_rows levels.now))) end → ⊥ }
@@ -81,9 +88,14 @@ impl<'a> Model for RowWalk<'a> {
 
     ghost Value = { Walked };
 
-    ghost view = { λ w. record { rows = rows_of_levels (map shared_rows w.levels.now); at = w.place.before + w.place.index } };
+    ghost view = { λ w. record {
+      rows = rows_of_levels (map shared_rows w.levels.now);
+      at = w.place.before
+          + w.place.index;
+    } };
 
-    ghost invariant = { λ w. IsRising (ends_of (rows_of_levels (map shared_rows w.levels.now))) × IsPlace (map shared_rows w.levels.now) w.place.level w.place.before w.place.index };
+    ghost invariant = { λ w. IsRising (ends_of (rows_of_levels (map shared_rows w.levels.now)))
+        × IsPlace (map shared_rows w.levels.now) w.place.level w.place.before w.place.index };
 }
 
 impl<'a> RowWalk<'a> {
@@ -126,7 +138,8 @@ impl<'a> RowWalk<'a> {
         requires { IsPast self.old end }
         ensures rows { self.new.rows ≡ self.old.rows }
         ensures past { IsPast self.new end }
-        ensures some { IfSome result (λ i. (i ≡ self.new.at) × (i < length self.old.rows) × (end ≤ slice_index (ends_of self.old.rows) i)) }
+        ensures some { IfSome result (λ i. (i ≡ self.new.at) × (i < length self.old.rows)
+            × (end ≤ slice_index (ends_of self.old.rows) i)) }
         ensures none { result ≡ None → length self.old.rows ≤ self.new.at }
     {
         self.place = first_from(self.levels, self.place, end);

@@ -24,12 +24,14 @@ pub record Reads (tells : Type 0) (bytes : ℕ) (old new : DiskState) : Type 0 w
   pub costs : Costs bytes old new
 
 -- Nothing was written, and it answers a fault of the disk only where the disk failed.
-pub record Retrieves {X : Type 0} (tells : Type 0) (bytes : ℕ) (old new : DiskState) (result : Result X LoadFault) : Type 0 where
+pub record Retrieves {X : Type 0} (tells : Type 0) (bytes : ℕ) (old new : DiskState)
+    (result : Result X LoadFault) : Type 0 where
   pub reads : Reads tells bytes old new
   pub cause : result ≡ Err DiskFault → Rose old.faults new.faults
 
 -- Each image goes by a step, and after `Ok` a stop leaves the content.
-pub record Syncs {T E : Type 0} (bytes : ℕ) (step : List ℕ → List ℕ → Type 0) (old new : DiskState) (result : Result T E) : Type 0 where
+pub record Syncs {T E : Type 0} (bytes : ℕ) (step : List ℕ → List ℕ → Type 0) (old new : DiskState)
+    (result : Result T E) : Type 0 where
   pub images : Passes step old new
   pub durable : OnOk result (Only new.content new.images)
   pub charges : Charges bytes old new result

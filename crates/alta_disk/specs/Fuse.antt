@@ -23,11 +23,13 @@ pub record IsFuseRead {T E : Type 0} (old new : FuseDisk) (result : Result T E) 
   pub blows : calls_left old ≡ 0 → IsErr result × Stays (media_of (fuse_inner old)) (media_of (fuse_inner new))
 
 -- a write: passed on while calls are left, else failed with its range left pending
-pub record IsFuseWrite {T E : Type 0} (at : ℕ) (bytes : List ℕ) (old new : FuseDisk) (result : Result T E) : Type 0 where
+pub record IsFuseWrite {T E : Type 0} (at : ℕ) (bytes : List ℕ) (old new : FuseDisk)
+    (result : Result T E) : Type 0 where
   pub uses : UsesOne old new
   pub passes : 0 < calls_left old → IsMemoryWrite at bytes (fuse_inner old) (fuse_inner new) result
   pub blows : calls_left old ≡ 0
-      → IsErr result × (Tears at (length bytes) (media_of (fuse_inner old)) (media_of (fuse_inner new)) ⊎ LacksMemory (fuse_inner old) (fuse_inner new))
+      → IsErr result × (Tears at (length bytes) (media_of (fuse_inner old)) (media_of (fuse_inner new))
+      ⊎ LacksMemory (fuse_inner old) (fuse_inner new))
 
 -- a sync: passed on while calls are left, else failed with nothing changed
 pub record IsFuseSync {T E : Type 0} (old new : FuseDisk) (result : Result T E) : Type 0 where

@@ -21,7 +21,11 @@ abbrev pub put : List ℕ → ℕ → List ℕ → List ℕ
 put old at bytes = take at old ++ bytes ++ drop (at + length bytes) old
 
 abbrev pub step : Media → Event → Media
-step m (Wrote at bytes) = record { content = put m.content at bytes.items; firm = m.firm; pending = (at, length bytes.items) ∷ m.pending }
+step m (Wrote at bytes) = record {
+  content = put m.content at bytes.items;
+  firm = m.firm;
+  pending = (at, length bytes.items) ∷ m.pending;
+}
 step m (Tore at n) = record { content = m.content; firm = m.firm; pending = (at, n) ∷ m.pending }
 step m Synced = record { content = m.content; firm = m.content; pending = [] }
 
@@ -53,7 +57,8 @@ MayLeave m c = IsImage m.firm m.pending c
 
 -- what a stop behind one of the events from the t-th on may have left
 abbrev pub MayHaveLeft : List ℕ → List Event → ℕ → List ℕ → Type 0
-MayHaveLeft first events t c = (k : ℕ) × (t ≤ k) × (k ≤ length events) × MayLeave (after (start first) (take k events)) c
+MayHaveLeft first events t c = (k : ℕ) × (t ≤ k) × (k ≤ length events)
+    × MayLeave (after (start first) (take k events)) c
 
 abbrev pub state_of : List ℕ → List Event → ℕ → ℕ → ℕ → DiskState
 state_of first events faults taken limit = record {

@@ -17,7 +17,8 @@ abbrev pub memory_state : MemoryDisk → DiskState
 memory_state m = state_of m.written.first.items m.written.events.items m.faults m.taken m.limit
 
 pub memory_lawful : (m : MemoryDisk) → IsLawful (Unit {0}) (memory_state m)
-memory_lawful m = media_lawful m.written.first.items m.written.events.items m.faults m.taken m.limit _ _ m.written.kept m.fits
+memory_lawful m = media_lawful m.written.first.items m.written.events.items m.faults m.taken m.limit _ _
+    m.written.kept m.fits
 
 -- the number of the next call, from 1
 abbrev pub next_call : MemoryDisk → ℕ
@@ -41,7 +42,8 @@ pub record LacksMemory (old new : MemoryDisk) : Type 0 where
   pub counted : Rose old.unrecorded new.unrecorded
 
 -- each image goes by a step, and exactly the errors are counted
-pub record IsMemoryCall {T E : Type 0} (bytes : ℕ) (step : List ℕ → List ℕ → Type 0) (old new : MemoryDisk) (result : Result T E) : Type 0 where
+pub record IsMemoryCall {T E : Type 0} (bytes : ℕ) (step : List ℕ → List ℕ → Type 0) (old new : MemoryDisk)
+    (result : Result T E) : Type 0 where
   pub images : Passes step (memory_state old) (memory_state new)
   pub charges : Charges bytes (memory_state old) (memory_state new) result
   pub faults : CountsErrors (memory_state old).faults (memory_state new).faults result
@@ -53,11 +55,13 @@ pub record IsMemoryRead {T E : Type 0} (old new : MemoryDisk) (result : Result T
   pub stays : Stays (media_of old) (media_of new)
 
 -- exactly what a write leaves
-pub record IsMemoryWrite {T E : Type 0} (at : ℕ) (bytes : List ℕ) (old new : MemoryDisk) (result : Result T E) : Type 0 where
+pub record IsMemoryWrite {T E : Type 0} (at : ℕ) (bytes : List ℕ) (old new : MemoryDisk)
+    (result : Result T E) : Type 0 where
   pub counts : Counts old new
   pub refused : IsTrue (will_fail old) → IsErr result
   pub done : OnOk result (Pends at (length bytes) (media_of old) (media_of new))
-  pub failed : OnErr result ((IsTrue (will_fail old) × Tears at (length bytes) (media_of old) (media_of new)) ⊎ LacksMemory old new)
+  pub failed : OnErr result ((IsTrue (will_fail old) × Tears at (length bytes) (media_of old) (media_of new))
+      ⊎ LacksMemory old new)
 
 -- exactly what a sync leaves
 pub record IsMemorySync {T E : Type 0} (old new : MemoryDisk) (result : Result T E) : Type 0 where

@@ -6,7 +6,15 @@ abbrev pub no_image : List ℕ → Type 0
 no_image c = ⊥
 
 abbrev pub untold : ℕ → ℕ → ℕ → DiskState
-untold faults taken limit = record { content = []; images = no_image; clock = 0; since = λ t. no_image; faults = faults; taken = taken; limit = limit }
+untold faults taken limit = record {
+  content = [];
+  images = no_image;
+  clock = 0;
+  since = λ t. no_image;
+  faults = faults;
+  taken = taken;
+  limit = limit;
+}
 
 pub untold_lawful : (faults taken limit : ℕ) → IsLawful ⊥ (untold faults taken limit)
 untold_lawful faults taken limit = record {

@@ -41,7 +41,8 @@ pub trait Disk {
         requires inside { tells → at ≤ length (state self.old).content }
         requires fits { at + length bytes.now ≤ (state self.old).limit }
         ensures written { tells → OnOk result (Holds (state self.old).content at bytes.now (state self.new).content) }
-        ensures torn { tells → OnErr result (Torn at (length bytes.now) (state self.old).content (state self.new).content) }
+        ensures torn { tells → OnErr result (Torn at (length bytes.now) (state self.old).content
+            (state self.new).content) }
         ensures images { Passes (Torn at (length bytes.now)) (state self.old) (state self.new) }
         ensures charges { Charges 0 (state self.old) (state self.new) result };
 

@@ -154,8 +154,10 @@ impl<R: Files<File = File> + AllocGlobal + Drop> Disk for FileDisk<R> {
     }
 
     fn read(&mut self, at: u64, buf: &mut [u8]) -> Result<(), Failed>
-        ensures counted { OnOk result ((⟦<FileDisk<R> as Disk>⟧.state self.new).taken ≡ min ((⟦<FileDisk<R> as Disk>⟧.state self.old).taken + length buf.old) (2 ^ 64 - 1)) }
-        ensures charges { Charges (length buf.old) (⟦<FileDisk<R> as Disk>⟧.state self.old) (⟦<FileDisk<R> as Disk>⟧.state self.new) result }
+        ensures counted { OnOk result ((⟦<FileDisk<R> as Disk>⟧.state self.new).taken
+            ≡ min ((⟦<FileDisk<R> as Disk>⟧.state self.old).taken + length buf.old) (2 ^ 64 - 1)) }
+        ensures charges { Charges (length buf.old) (⟦<FileDisk<R> as Disk>⟧.state self.old)
+            (⟦<FileDisk<R> as Disk>⟧.state self.new) result }
     {
         match self.file.read(at, buf) {
             Ok(()) => {

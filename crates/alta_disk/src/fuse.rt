@@ -68,7 +68,8 @@ impl Disk for FuseDisk {
     fn read(&mut self, at: u64, buf: &mut [u8]) -> Result<(), Failed>
         requires { at + length buf.old ≤ length (memory_state (fuse_inner self.old)).content }
         ensures exactly { IsFuseRead self.old self.new result }
-        ensures bytes { OnOk result (buf.new ≡ take (length buf.old) (drop at (memory_state (fuse_inner self.old)).content)) }
+        ensures bytes { OnOk result (buf.new ≡ take (length buf.old)
+            (drop at (memory_state (fuse_inner self.old)).content)) }
         ensures content { (memory_state (fuse_inner self.new)).content ≡ (memory_state (fuse_inner self.old)).content }
         ensures call { IsMemoryCall (length buf.old) Same (fuse_inner self.old) (fuse_inner self.new) result }
     {
@@ -82,8 +83,10 @@ impl Disk for FuseDisk {
         requires inside { at ≤ length (memory_state (fuse_inner self.old)).content }
         requires fits { at + length bytes.now ≤ (memory_state (fuse_inner self.old)).limit }
         ensures exactly { IsFuseWrite at bytes.now self.old self.new result }
-        ensures written { OnOk result (Holds (memory_state (fuse_inner self.old)).content at bytes.now (memory_state (fuse_inner self.new)).content) }
-        ensures stays { OnErr result ((memory_state (fuse_inner self.new)).content ≡ (memory_state (fuse_inner self.old)).content) }
+        ensures written { OnOk result (Holds (memory_state (fuse_inner self.old)).content at bytes.now
+            (memory_state (fuse_inner self.new)).content) }
+        ensures stays { OnErr result ((memory_state (fuse_inner self.new)).content
+            ≡ (memory_state (fuse_inner self.old)).content) }
         ensures call { IsMemoryCall 0 (Torn at (length bytes.now)) (fuse_inner self.old) (fuse_inner self.new) result }
     {
         if self.is_blown() {
@@ -94,7 +97,8 @@ impl Disk for FuseDisk {
 
     fn sync(&mut self) -> Result<(), Failed>
         ensures exactly { IsFuseSync self.old self.new result }
-        ensures durable { OnOk result (Only (memory_state (fuse_inner self.old)).content (memory_state (fuse_inner self.new)).images) }
+        ensures durable { OnOk result (Only (memory_state (fuse_inner self.old)).content
+            (memory_state (fuse_inner self.new)).images) }
         ensures content { (memory_state (fuse_inner self.new)).content ≡ (memory_state (fuse_inner self.old)).content }
         ensures call { IsMemoryCall 0 Same (fuse_inner self.old) (fuse_inner self.new) result }
     {

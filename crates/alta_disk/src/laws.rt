@@ -10,5 +10,6 @@ use crate::MemoryDisk;
 /// and the greatest end written since.
 pub fn images_keep_the_firm_bytes(_disk: &MemoryDisk)
     ensures { (image : List ℕ)
-        → ((memory_state _disk.now).images image ↔ IsLeft (media_of _disk.now).firm (media_of _disk.now).pending image) }
+        → ((memory_state _disk.now).images image
+        ↔ IsLeft (media_of _disk.now).firm (media_of _disk.now).pending image) }
 {}

@@ -61,8 +61,10 @@ impl MemoryDisk {
         ensures image { IfOk result (λ v. (memory_state self.now).images v.items) }
         ensures content { pick ≡ 0 → IfOk result (λ v. v.items ≡ (media_of self.now).content) }
         ensures firm { pick ≡ 1 → IfOk result (λ v. v.items ≡ (media_of self.now).firm) }
-        ensures marked { pick ≡ 2 → IfOk result (λ v. IsFilled 165 (media_of self.now).pending (media_of self.now).content v.items) }
-        ensures cleared { 3 ≤ pick → IfOk result (λ v. IsFilled 0 (media_of self.now).pending (media_of self.now).content v.items) }
+        ensures marked { pick ≡ 2 → IfOk result
+            (λ v. IsFilled 165 (media_of self.now).pending (media_of self.now).content v.items) }
+        ensures cleared { 3 ≤ pick → IfOk result
+            (λ v. IsFilled 0 (media_of self.now).pending (media_of self.now).content v.items) }
     {
         match pick {
             0 => {
@@ -131,7 +133,8 @@ impl Disk for MemoryDisk {
 
     ghost state = { λ m. state_of m.written.first.items m.written.events.items m.faults m.taken m.limit };
 
-    ghost lawful = { λ m. media_lawful m.written.first.items m.written.events.items m.faults m.taken m.limit _ _ m.written.kept m.fits };
+    ghost lawful = { λ m. media_lawful m.written.first.items m.written.events.items m.faults m.taken m.limit _ _
+        m.written.kept m.fits };
 
     fn len(&mut self) -> Result<u64, Failed>
         ensures exactly { IsMemoryRead self.old self.new result }
@@ -148,7 +151,8 @@ impl Disk for MemoryDisk {
     fn read(&mut self, at: u64, buf: &mut [u8]) -> Result<(), Failed>
         requires { at + length buf.old ≤ length (memory_state self.old).content }
         ensures exactly { IsMemoryRead self.old self.new result }
-        ensures counted { OnOk result ((memory_state self.new).taken ≡ min ((memory_state self.old).taken + length buf.old) (2 ^ 64 - 1)) }
+        ensures counted { OnOk result ((memory_state self.new).taken
+            ≡ min ((memory_state self.old).taken + length buf.old) (2 ^ 64 - 1)) }
         ensures bytes { OnOk result (buf.new ≡ take (length buf.old) (drop at (memory_state self.old).content)) }
         ensures content { (memory_state self.new).content ≡ (memory_state self.old).content }
         ensures call { IsMemoryCall (length buf.old) Same self.old self.new result }
@@ -166,7 +170,8 @@ impl Disk for MemoryDisk {
         requires inside { at ≤ length (memory_state self.old).content }
         requires fits { at + length bytes.now ≤ (memory_state self.old).limit }
         ensures exactly { IsMemoryWrite at bytes.now self.old self.new result }
-        ensures written { OnOk result (Holds (memory_state self.old).content at bytes.now (memory_state self.new).content) }
+        ensures written { OnOk result (Holds (memory_state self.old).content at bytes.now
+            (memory_state self.new).content) }
         ensures stays { OnErr result ((memory_state self.new).content ≡ (memory_state self.old).content) }
         ensures call { IsMemoryCall 0 (Torn at (length bytes.now)) self.old self.new result }
     {

@@ -21,7 +21,8 @@ pub fn replayed(alloc: Global, first: &[u8], events: &[Event]) -> Result<Vec<u8>
 
 fn replay(content: &mut Vec<u8>, event: &Event) -> Result<(), AllocError>
     requires { (m : Media) × (content.old.items ≡ m.content) × (begins_inside m event.now ≡ true) }
-    ensures { (m : Media) → content.old.items ≡ m.content → OnOk result (content.new.items ≡ (step m event.now).content) }
+    ensures { (m : Media) → content.old.items ≡ m.content
+        → OnOk result (content.new.items ≡ (step m event.now).content) }
 {
     match event {
         Event::Wrote(at, bytes) => put(content, *at as usize, bytes),

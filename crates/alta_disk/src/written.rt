@@ -63,10 +63,13 @@ impl Written {
     pub fn write(&mut self, at: usize, bytes: &[u8]) -> Result<(), AllocError>
         requires { at ≤ length (content_of self.old.content self.old.first.items) }
         ensures first { self.new.first.items ≡ self.old.first.items }
-        ensures content { OnOk result (Holds (content_of self.old.content self.old.first.items) at bytes.now (content_of self.new.content self.new.first.items)) }
-        ensures ok { OnOk result ((v : _) × (v.items ≡ bytes.now) × (self.new.events.items ≡ self.old.events.items ++ Wrote at v ∷ [])) }
+        ensures content { OnOk result (Holds (content_of self.old.content self.old.first.items) at bytes.now
+            (content_of self.new.content self.new.first.items)) }
+        ensures ok { OnOk result ((v : _) × (v.items ≡ bytes.now)
+            × (self.new.events.items ≡ self.old.events.items ++ Wrote at v ∷ [])) }
         ensures err { OnErr result (self.new.events.items ≡ self.old.events.items) }
-        ensures content_err { OnErr result ((content_of self.new.content self.new.first.items) ≡ (content_of self.old.content self.old.first.items)) }
+        ensures content_err { OnErr result ((content_of self.new.content self.new.first.items)
+            ≡ (content_of self.old.content self.old.first.items)) }
     {
         let copy = bytes.to_vec(self.alloc)?;
         self.events.push(Event::Wrote(at as u64, copy))?;
@@ -83,8 +86,10 @@ impl Written {
     pub fn tear(&mut self, at: usize, n: usize) -> Result<(), AllocError>
         requires { at ≤ length (content_of self.old.content self.old.first.items) }
         ensures first { self.new.first.items ≡ self.old.first.items }
-        ensures content { (content_of self.new.content self.new.first.items) ≡ (content_of self.old.content self.old.first.items) }
-        ensures events { self.new.events.items ≡ (if is_ok result then self.old.events.items ++ Tore at n ∷ [] else self.old.events.items) }
+        ensures content { (content_of self.new.content self.new.first.items)
+            ≡ (content_of self.old.content self.old.first.items) }
+        ensures events { self.new.events.items ≡ (if is_ok result then self.old.events.items ++ Tore at n
+            ∷ [] else self.old.events.items) }
     {
         self.events.push(Event::Tore(at as u64, n as u64))?;
         Ok(())
@@ -92,7 +97,8 @@ impl Written {
 
     pub fn sync(&mut self) -> Result<(), AllocError>
         ensures first { self.new.first.items ≡ self.old.first.items }
-        ensures content { (content_of self.new.content self.new.first.items) ≡ (content_of self.old.content self.old.first.items) }
+        ensures content { (content_of self.new.content self.new.first.items)
+            ≡ (content_of self.old.content self.old.first.items) }
         ensures ok { OnOk result (self.new.events.items ≡ self.old.events.items ++ Synced ∷ []) }
         ensures err { OnErr result (self.new.events.items ≡ self.old.events.items) }
     {
@@ -123,7 +129,8 @@ fn put_over(
     bytes: &[u8],
 ) -> Result<(), AllocError>
     requires { at ≤ length (content_of content.old first.now) }
-    ensures ok { OnOk result (Holds (content_of content.old first.now) at bytes.now (content_of content.new first.now)) }
+    ensures ok { OnOk result (Holds (content_of content.old first.now) at bytes.now
+        (content_of content.new first.now)) }
     ensures err { OnErr result (content_of content.new first.now ≡ content_of content.old first.now) }
 {
     match content {

@@ -22,7 +22,14 @@ is_one_found (without at r t) = false
 -- what is seen of a tree
 abbrev pub view_of : Tree → DocView
 view_of t =
-    record { list = tree_list t; all = tree_all t; place = tree_place t; places = reader_places t; left = tree_left t; one = is_one_found t }
+    record {
+      list = tree_list t;
+      all = tree_all t;
+      place = tree_place t;
+      places = reader_places t;
+      left = tree_left t;
+      one = is_one_found t;
+    }
 
 -- the list rises, and the reader stands at an element of it, or at TOP past the last
 pub record IsReading (d : DocView) : Type 0 where

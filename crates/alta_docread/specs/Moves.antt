@@ -18,7 +18,8 @@ pub record IsKept {N : Type 0} (tree : N → Tree) (os ns : List N) (before afte
 -- each tree was brought to `to`, and the least of their places is `least`
 pub record IsReached {N : Type 0} (tree : N → Tree) (os ns : List N) (to least before after : ℕ) : Type 0 where
   pub kept : IsKept tree os ns before after
-  pub brought : (k : ℕ) (d : N) → k < length os → IsBrought (tree (slice_index_or os k d)) (tree (slice_index_or ns k d)) to
+  pub brought : (k : ℕ) (d : N) → k < length os
+      → IsBrought (tree (slice_index_or os k d)) (tree (slice_index_or ns k d)) to
   pub lowest : least ≡ least_of (map (λ n. tree_place (tree n)) ns)
   pub falls : 0 < least_of (map (λ n. tree_place (tree n)) os) → least_of (map (λ n. tree_place (tree n)) os) < to
       → sum_by (λ n. tree_left (tree n)) ns < sum_by (λ n. tree_left (tree n)) os
@@ -35,7 +36,8 @@ pub record IsPassed {N : Type 0} (tree : N → Tree) (os ns : List N) (goal leas
   pub lower : All (λ n. least ≤ tree_place (tree n)) ns
   pub upper : All (λ n. tree_place (tree n) ≤ last) ns
   pub later : All (λ n. tree_place (tree n) ≤ last) os
-  pub ahead : (z : ℕ) → All (λ l. Contains l z) (map (λ n. tree_list (tree n)) os) → All (λ n. tree_place (tree n) ≤ z) os → goal ≤ z → last ≤ z
+  pub ahead : (z : ℕ) → All (λ l. Contains l z) (map (λ n. tree_list (tree n)) os)
+      → All (λ n. tree_place (tree n) ≤ z) os → goal ≤ z → last ≤ z
   pub falls : All (λ n. 0 < tree_place (tree n)) os → All (λ n. tree_place (tree n) < goal) os
       → sum_by (λ n. tree_left (tree n)) ns < sum_by (λ n. tree_left (tree n)) os
 
@@ -47,7 +49,8 @@ pub record IsJoined {N : Type 0} (tree : N → Tree) (os ns : List N) (to at bef
   pub top : at ≤ TOP
   pub same : All (λ n. tree_place (tree n) ≡ at) ns
   pub later : All (λ n. tree_place (tree n) ≤ at) os
-  pub ahead : (z : ℕ) → All (λ l. Contains l z) (map (λ n. tree_list (tree n)) os) → All (λ n. tree_place (tree n) ≤ z) os → to ≤ z → at ≤ z
+  pub ahead : (z : ℕ) → All (λ l. Contains l z) (map (λ n. tree_list (tree n)) os)
+      → All (λ n. tree_place (tree n) ≤ z) os → to ≤ z → at ≤ z
   pub falls : All (λ n. 0 < tree_place (tree n)) os → All (λ n. tree_place (tree n) < to) os
       → sum_by (λ n. tree_left (tree n)) ns < sum_by (λ n. tree_left (tree n)) os
 

@@ -15,7 +15,8 @@ some_row (l ∷ ls) p = list_any (λ x. some_row ls (λ row. p (x ∷ row))) (l 
 -- whether each bound holds
 unfoldable pub keeps_all : List (List ℕ) → List ℕ → List Inequality → Bool
 keeps_all lists x bounds =
-    list_all (λ b. nat_le (low_side b.form (list_at lists b.i) (slice_index x b.i) + b.minus) (high_side b.form (list_at lists b.j) (slice_index x b.j) + b.plus)) bounds
+    list_all (λ b. nat_le (low_side b.form (list_at lists b.i) (slice_index x b.i) + b.minus)
+    (high_side b.form (list_at lists b.j) (slice_index x b.j) + b.plus)) bounds
 
 -- whether a solution has this first place
 abbrev pub leads : List (List ℕ) → List Inequality → ℕ → Bool

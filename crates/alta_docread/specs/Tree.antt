@@ -174,7 +174,8 @@ pub record IsMoved (old new : Tree) (to before after : ℕ) : Type 0 where
 abbrev mutual
   -- no reader was moved, and each intersection has a tree
   pub IsUnmoved : Tree → Type 0
-  IsUnmoved (found w) = (w.at ≡ 0) × (w.places ≡ map (λ l. first_from l 0) w.lists) × (0 < length w.lists) × IsRising (list_at w.lists 0) × IsHeld (length w.lists) w.bounds
+  IsUnmoved (found w) = (w.at ≡ 0) × (w.places ≡ map (λ l. first_from l 0) w.lists) × (0 < length w.lists)
+      × IsRising (list_at w.lists 0) × IsHeld (length w.lists) w.bounds
   IsUnmoved (all_of ts) = (0 < length (lists_of ts)) × AreUnmoved ts
   IsUnmoved (any_of ts) = AreUnmoved ts
   IsUnmoved (without at r t) = (at ≡ 0) × IsUnmoved t × (r.place ≡ first_from r.list 0) × IsRising r.list

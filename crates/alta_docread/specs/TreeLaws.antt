@@ -26,7 +26,8 @@ mutual
 
   trees_rise : (ts : Trees) → AreSoundTrees ts → All (λ l. IsRising l) (lists_of ts)
   trees_rise none s = All-nil (λ l. IsRising l)
-  trees_rise (more t ts) s = All-cons (λ l. IsRising l) (tree_list t) (lists_of ts) (tree_rises t s.0) (trees_rise ts s.1)
+  trees_rise (more t ts) s = All-cons (λ l. IsRising l) (tree_list t) (lists_of ts)
+      (tree_rises t s.0) (trees_rise ts s.1)
 
 pub tree_stands : (t : Tree) → IsSoundTree t → 0 < tree_place t → IsPlace (tree_list t) (tree_place t)
 tree_stands (found w) s begun = walk_place w s begun

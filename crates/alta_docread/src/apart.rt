@@ -16,7 +16,8 @@ impl<R: BackReader> Without<R> {
     pub fn begin<L: Ledger>(&mut self, steps: &mut Steps<L>)
         requires { IsUnmoved (apart_of R.list R.all R.location R.left self.old) }
         ensures sound { ⟦<Without<R> as Reader>⟧.sound self.new }
-        ensures moved { IsMoved (apart_of R.list R.all R.location R.left self.old) (apart_of R.list R.all R.location R.left self.new) 1 steps.old steps.new }
+        ensures moved { IsMoved (apart_of R.list R.all R.location R.left self.old)
+            (apart_of R.list R.all R.location R.left self.new) 1 steps.old steps.new }
     {
         go_without(self, 1, steps);
     }

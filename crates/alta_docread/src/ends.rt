@@ -46,15 +46,19 @@ impl<R: BackReader> Ends<R> {
 
     /// Goes to the first end at or above `to`, where it does not stand there yet.
     pub(crate) fn reach<L: Ledger>(&mut self, to: Loc, steps: &mut Steps<L>)
-        requires ahead { IsAhead to (⟦<EndReader<R> as Reader>⟧.list self.old) (⟦<EndReader<R> as Reader>⟧.location self.old) }
+        requires ahead { IsAhead to (⟦<EndReader<R> as Reader>⟧.list self.old)
+            (⟦<EndReader<R> as Reader>⟧.location self.old) }
         requires top { to ≤ TOP }
         ensures list { ⟦<EndReader<R> as Reader>⟧.list self.new ≡ ⟦<EndReader<R> as Reader>⟧.list self.old }
         ensures all { ⟦<EndReader<R> as Reader>⟧.all self.new ≡ ⟦<EndReader<R> as Reader>⟧.all self.old }
-        ensures location { ⟦<EndReader<R> as Reader>⟧.location self.new ≡ first_from (⟦<EndReader<R> as Reader>⟧.list self.old) to }
+        ensures location { ⟦<EndReader<R> as Reader>⟧.location self.new
+            ≡ first_from (⟦<EndReader<R> as Reader>⟧.list self.old) to }
         ensures rising { IsRising (⟦<EndReader<R> as Reader>⟧.list self.new) }
         ensures left { ⟦<EndReader<R> as Reader>⟧.left self.new ≤ ⟦<EndReader<R> as Reader>⟧.left self.old }
-        ensures falls { ⟦<EndReader<R> as Reader>⟧.location self.old < to → ⟦<EndReader<R> as Reader>⟧.left self.new < ⟦<EndReader<R> as Reader>⟧.left self.old }
-        ensures steps { steps.new + ⟦<EndReader<R> as Reader>⟧.left self.new ≤ steps.old + ⟦<EndReader<R> as Reader>⟧.left self.old }
+        ensures falls { ⟦<EndReader<R> as Reader>⟧.location self.old < to
+            → ⟦<EndReader<R> as Reader>⟧.left self.new < ⟦<EndReader<R> as Reader>⟧.left self.old }
+        ensures steps { steps.new + ⟦<EndReader<R> as Reader>⟧.left self.new
+            ≤ steps.old + ⟦<EndReader<R> as Reader>⟧.left self.old }
     {
         if self.place() < to {
             self.reader.seek(to, steps)

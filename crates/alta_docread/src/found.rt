@@ -25,7 +25,8 @@ fn raise_first<R: BackReader, L: Ledger>(solver: &mut Solver<R>, to: Loc, steps:
     ensures keeps { (x : List ℕ) → IsSolution (map R.list solver.old.readers) solver.old.bounds x → to ≤ slice_index x 0
         → IsAtLeast (map R.location solver.old.readers) x → IsAtLeast (map R.location solver.new.readers) x }
     ensures left { sum_by R.left solver.new.readers ≤ sum_by R.left solver.old.readers }
-    ensures falls { slice_index (map R.location solver.old.readers) 0 < to → sum_by R.left solver.new.readers < sum_by R.left solver.old.readers }
+    ensures falls { slice_index (map R.location solver.old.readers) 0 < to
+        → sum_by R.left solver.new.readers < sum_by R.left solver.old.readers }
     ensures steps { steps.new + sum_by R.left solver.new.readers ≤ steps.old + sum_by R.left solver.old.readers }
 {
     if solver.first() < to {
@@ -43,7 +44,8 @@ fn approach<R: BackReader, L: Ledger>(
     steps: &mut Steps<L>,
 )
     requires held { IsHeld (length solver.old.readers) solver.old.bounds }
-    requires walking { IsWalking (map R.list solver.old.readers) solver.old.bounds (map R.location solver.old.readers) at }
+    requires walking { IsWalking (map R.list solver.old.readers) solver.old.bounds
+        (map R.location solver.old.readers) at }
     requires above { at < to }
     requires top { to ≤ TOP }
     ensures system { solver.new.bounds ≡ solver.old.bounds }
@@ -54,7 +56,8 @@ fn approach<R: BackReader, L: Ledger>(
     ensures keeps { (x : List ℕ) → IsSolution (map R.list solver.old.readers) solver.old.bounds x → to ≤ slice_index x 0
         → IsAtLeast (map R.location solver.old.readers) x → IsAtLeast (map R.location solver.new.readers) x }
     ensures left { sum_by R.left solver.new.readers ≤ sum_by R.left solver.old.readers }
-    ensures falls { slice_index (map R.location solver.old.readers) 0 < to → 0 < at → sum_by R.left solver.new.readers < sum_by R.left solver.old.readers }
+    ensures falls { slice_index (map R.location solver.old.readers) 0 < to → 0 < at
+        → sum_by R.left solver.new.readers < sum_by R.left solver.old.readers }
     ensures steps { steps.new + sum_by R.left solver.new.readers ≤ steps.old + sum_by R.left solver.old.readers }
 {
     if at == 0 || at + 1 < to || solver.len() < 2 {
@@ -72,15 +75,18 @@ fn walk<R: BackReader, L: Ledger>(
     steps: &mut Steps<L>,
 ) -> Loc
     requires held { IsHeld (length solver.old.readers) solver.old.bounds }
-    requires walking { IsWalking (map R.list solver.old.readers) solver.old.bounds (map R.location solver.old.readers) at }
+    requires walking { IsWalking (map R.list solver.old.readers) solver.old.bounds
+        (map R.location solver.old.readers) at }
     requires above { at < to }
     requires top { to ≤ TOP }
     ensures system { solver.new.bounds ≡ solver.old.bounds }
     ensures lists { map R.list solver.new.readers ≡ map R.list solver.old.readers }
     ensures alls { map R.all solver.new.readers ≡ map R.all solver.old.readers }
-    ensures walking { IsWalking (map R.list solver.old.readers) solver.old.bounds (map R.location solver.new.readers) result }
+    ensures walking { IsWalking (map R.list solver.old.readers) solver.old.bounds
+        (map R.location solver.new.readers) result }
     ensures place { result ≡ first_from (found_list (map R.list solver.old.readers) solver.old.bounds) to }
-    ensures unpassed { result < TOP → count_from (concat (map R.all solver.new.readers)) result ≤ sum_by R.left solver.new.readers }
+    ensures unpassed { result < TOP → count_from (concat (map R.all solver.new.readers)) result
+        ≤ sum_by R.left solver.new.readers }
     ensures left { sum_by R.left solver.new.readers ≤ sum_by R.left solver.old.readers }
     ensures falls { 0 < at → sum_by R.left solver.new.readers < sum_by R.left solver.old.readers }
     ensures steps { steps.new + sum_by R.left solver.new.readers ≤ steps.old + sum_by R.left solver.old.readers }
@@ -113,10 +119,12 @@ impl<R: BackReader> Found<R> {
         ensures solver { solver_of result ≡ solver }
         ensures begins { ⟦<Found<R> as Reader>⟧.location result ≡ 0 }
         ensures list { ⟦<Found<R> as Reader>⟧.list result ≡ found_list (map R.list solver.readers) solver.bounds }
-        ensures solutions { (e : ℕ) → Contains (⟦<Found<R> as Reader>⟧.list result) e ↔ Leads (map R.list solver.readers) solver.bounds e }
+        ensures solutions { (e : ℕ) → Contains (⟦<Found<R> as Reader>⟧.list result) e
+            ↔ Leads (map R.list solver.readers) solver.bounds e }
         ensures all { ⟦<Found<R> as Reader>⟧.all result ≡ concat (map R.all solver.readers) }
         ensures left { ⟦<Found<R> as Reader>⟧.left result ≡ sum_by R.left solver.readers }
-        ensures unmoved { All (λ r. R.location r ≡ first_from (R.list r) 0) solver.readers → IsUnmoved (found (walk_of R.list R.all R.location R.left result)) }
+        ensures unmoved { All (λ r. R.location r ≡ first_from (R.list r) 0) solver.readers
+            → IsUnmoved (found (walk_of R.list R.all R.location R.left result)) }
     {
         // Its answer says that there is a first reader, and that its list rises.
         let _first = solver.first();
@@ -127,7 +135,8 @@ impl<R: BackReader> Found<R> {
     pub fn begin<L: Ledger>(&mut self, steps: &mut Steps<L>)
         requires { IsUnmoved (found (walk_of R.list R.all R.location R.left self.old)) }
         ensures sound { ⟦<Found<R> as Reader>⟧.sound self.new }
-        ensures walked { IsWalked (walk_of R.list R.all R.location R.left self.old) (walk_of R.list R.all R.location R.left self.new) 1 steps.old steps.new }
+        ensures walked { IsWalked (walk_of R.list R.all R.location R.left self.old)
+            (walk_of R.list R.all R.location R.left self.new) 1 steps.old steps.new }
     {
         self.go(1, steps);
     }
@@ -144,7 +153,8 @@ impl<R: BackReader> Found<R> {
         requires sound { IsSoundWalk (walk_of R.list R.all R.location R.left self.old) }
         requires above { self.old.at < to }
         requires top { to ≤ TOP }
-        ensures { IsWalked (walk_of R.list R.all R.location R.left self.old) (walk_of R.list R.all R.location R.left self.new) to steps.old steps.new }
+        ensures { IsWalked (walk_of R.list R.all R.location R.left self.old)
+            (walk_of R.list R.all R.location R.left self.new) to steps.old steps.new }
     {
         self.at = walk(&mut self.solver, self.at, to, steps);
     }
@@ -170,7 +180,8 @@ impl<R: BackReader> Reader for Found<R> {
         ensures location { result ≡ ⟦<Found<R> as Reader>⟧.location self.now }
         ensures place { IsPlace (⟦<Found<R> as Reader>⟧.list self.now) result }
         ensures within { result < TOP → All (λ x. x ≤ result) (walk_of R.list R.all R.location R.left self.now).places }
-        ensures unpassed { result < TOP → count_from (⟦<Found<R> as Reader>⟧.all self.now) result ≤ ⟦<Found<R> as Reader>⟧.left self.now }
+        ensures unpassed { result < TOP → count_from (⟦<Found<R> as Reader>⟧.all self.now) result
+            ≤ ⟦<Found<R> as Reader>⟧.left self.now }
     {
         self.at
     }

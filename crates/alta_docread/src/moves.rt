@@ -25,7 +25,8 @@ pub(crate) fn seek<R: BackReader, L: Ledger>(
     requires some { 0 < to }
     requires top { to ≤ TOP }
     ensures place { result ≡ tree_place (tree_of R.list R.all R.location R.left node.new) }
-    ensures moved { IsMoved (tree_of R.list R.all R.location R.left node.old) (tree_of R.list R.all R.location R.left node.new) to steps.old steps.new }
+    ensures moved { IsMoved (tree_of R.list R.all R.location R.left node.old)
+        (tree_of R.list R.all R.location R.left node.new) to steps.old steps.new }
 {
     match node {
         Node::Found(reader) => seek_found(reader, to, steps),
@@ -45,7 +46,8 @@ fn seek_found<R: BackReader, L: Ledger>(
     requires some { 0 < to }
     requires top { to ≤ TOP }
     ensures place { result ≡ reader.new.value.at }
-    ensures moved { IsMoved (found (walk_of R.list R.all R.location R.left reader.old.value)) (found (walk_of R.list R.all R.location R.left reader.new.value)) to steps.old steps.new }
+    ensures moved { IsMoved (found (walk_of R.list R.all R.location R.left reader.old.value))
+        (found (walk_of R.list R.all R.location R.left reader.new.value)) to steps.old steps.new }
 {
     if reader.place() >= to {
         return reader.place();
@@ -65,7 +67,8 @@ fn seek_any<R: BackReader, L: Ledger>(
     requires some { 0 < to }
     requires top { to ≤ TOP }
     ensures place { result ≡ tree_place (any_of (trees_in R.list R.all R.location R.left nodes.new.items)) }
-    ensures moved { IsMoved (any_of (trees_in R.list R.all R.location R.left nodes.old.items)) (any_of (trees_in R.list R.all R.location R.left nodes.new.items)) to steps.old steps.new }
+    ensures moved { IsMoved (any_of (trees_in R.list R.all R.location R.left nodes.old.items))
+        (any_of (trees_in R.list R.all R.location R.left nodes.new.items)) to steps.old steps.new }
 {
     seek_each(nodes, to, steps)
 }
@@ -80,7 +83,8 @@ fn seek_each<R: BackReader, L: Ledger>(
     requires sound { All (λ n. IsSoundTree (tree_of R.list R.all R.location R.left n)) nodes.old.items }
     requires some { 0 < to }
     requires top { to ≤ TOP }
-    ensures { IsReached (tree_of R.list R.all R.location R.left) nodes.old.items nodes.new.items to result steps.old steps.new }
+    ensures { IsReached (tree_of R.list R.all R.location R.left) nodes.old.items nodes.new.items to result
+        steps.old steps.new }
 {
     let mut least = TOP;
     for i in 0..nodes.len() {
@@ -100,7 +104,8 @@ fn seek_all<R: BackReader, L: Ledger>(
     requires some { 0 < to }
     requires top { to ≤ TOP }
     ensures place { result ≡ tree_place (all_of (trees_in R.list R.all R.location R.left nodes.new.items)) }
-    ensures moved { IsMoved (all_of (trees_in R.list R.all R.location R.left nodes.old.items)) (all_of (trees_in R.list R.all R.location R.left nodes.new.items)) to steps.old steps.new }
+    ensures moved { IsMoved (all_of (trees_in R.list R.all R.location R.left nodes.old.items))
+        (all_of (trees_in R.list R.all R.location R.left nodes.new.items)) to steps.old steps.new }
 {
     agree(nodes, to, steps)
 }
@@ -113,7 +118,8 @@ fn agree<R: BackReader, L: Ledger>(nodes: &mut Vec<Node<R>>, to: Loc, steps: &mu
     requires nodes { 0 < length nodes.old.items }
     requires some { 0 < to }
     requires top { to ≤ TOP }
-    ensures { IsJoined (tree_of R.list R.all R.location R.left) nodes.old.items nodes.new.items to result steps.old steps.new }
+    ensures { IsJoined (tree_of R.list R.all R.location R.left) nodes.old.items nodes.new.items to result
+        steps.old steps.new }
 {
     let mut goal = to;
     'agree: loop {
@@ -137,7 +143,8 @@ fn pass<R: BackReader, L: Ledger>(
     requires nodes { 0 < length nodes.old.items }
     requires some { 0 < goal }
     requires top { goal ≤ TOP }
-    ensures { IsPassed (tree_of R.list R.all R.location R.left) nodes.old.items nodes.new.items goal result.0 result.1 steps.old steps.new }
+    ensures { IsPassed (tree_of R.list R.all R.location R.left) nodes.old.items nodes.new.items goal result.0 result.1
+        steps.old steps.new }
 {
     let mut least = TOP;
     let mut last = goal;
@@ -159,7 +166,8 @@ fn seek_without<R: BackReader, L: Ledger>(
     requires some { 0 < to }
     requires top { to ≤ TOP }
     ensures place { result ≡ reader.new.value.at }
-    ensures moved { IsMoved (apart_of R.list R.all R.location R.left reader.old.value) (apart_of R.list R.all R.location R.left reader.new.value) to steps.old steps.new }
+    ensures moved { IsMoved (apart_of R.list R.all R.location R.left reader.old.value)
+        (apart_of R.list R.all R.location R.left reader.new.value) to steps.old steps.new }
 {
     if reader.at >= to {
         return reader.at;
@@ -178,7 +186,8 @@ pub(crate) fn go_without<R: BackReader, L: Ledger>(
     requires sound { IsSoundTree (apart_of R.list R.all R.location R.left reader.old) }
     requires above { reader.old.at < to }
     requires top { to ≤ TOP }
-    ensures { IsMoved (apart_of R.list R.all R.location R.left reader.old) (apart_of R.list R.all R.location R.left reader.new) to steps.old steps.new }
+    ensures { IsMoved (apart_of R.list R.all R.location R.left reader.old)
+        (apart_of R.list R.all R.location R.left reader.new) to steps.old steps.new }
 {
     reader.at = skip(&mut reader.ends, &mut reader.child, to, steps);
 }
@@ -192,11 +201,15 @@ fn skip<R: BackReader, L: Ledger>(
     steps: &mut Steps<L>,
 ) -> Loc
     requires sound { IsSoundTree (tree_of R.list R.all R.location R.left child.old) }
-    requires ends { IsAhead to (reading_of R.list R.all R.location R.left ends.old).list (reading_of R.list R.all R.location R.left ends.old).place }
-    requires ahead { IsAhead to (tree_list (tree_of R.list R.all R.location R.left child.old)) (tree_place (tree_of R.list R.all R.location R.left child.old)) }
+    requires ends { IsAhead to (reading_of R.list R.all R.location R.left ends.old).list
+        (reading_of R.list R.all R.location R.left ends.old).place }
+    requires ahead { IsAhead to (tree_list (tree_of R.list R.all R.location R.left child.old))
+        (tree_place (tree_of R.list R.all R.location R.left child.old)) }
     requires some { 0 < to }
     requires top { to ≤ TOP }
-    ensures { IsSkipped (reading_of R.list R.all R.location R.left ends.old) (reading_of R.list R.all R.location R.left ends.new) (tree_of R.list R.all R.location R.left child.old) (tree_of R.list R.all R.location R.left child.new) to result steps.old steps.new }
+    ensures { IsSkipped (reading_of R.list R.all R.location R.left ends.old)
+        (reading_of R.list R.all R.location R.left ends.new) (tree_of R.list R.all R.location R.left child.old)
+        (tree_of R.list R.all R.location R.left child.new) to result steps.old steps.new }
 {
     ends.reach(to, steps);
     'ends: while has(child, ends.place(), steps) {
@@ -209,10 +222,12 @@ fn skip<R: BackReader, L: Ledger>(
 #[cycle(moves)]
 fn has<R: BackReader, L: Ledger>(child: &mut Node<R>, end: Loc, steps: &mut Steps<L>) -> bool
     requires sound { IsSoundTree (tree_of R.list R.all R.location R.left child.old) }
-    requires ahead { IsAhead end (tree_list (tree_of R.list R.all R.location R.left child.old)) (tree_place (tree_of R.list R.all R.location R.left child.old)) }
+    requires ahead { IsAhead end (tree_list (tree_of R.list R.all R.location R.left child.old))
+        (tree_place (tree_of R.list R.all R.location R.left child.old)) }
     requires some { 0 < end }
     requires top { end ≤ TOP }
-    ensures { IsAsked (tree_of R.list R.all R.location R.left child.old) (tree_of R.list R.all R.location R.left child.new) end result steps.old steps.new }
+    ensures { IsAsked (tree_of R.list R.all R.location R.left child.old)
+        (tree_of R.list R.all R.location R.left child.new) end result steps.old steps.new }
 {
     if end == TOP {
         return false;

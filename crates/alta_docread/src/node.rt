@@ -44,10 +44,14 @@ impl<R: BackReader> Without<R> {
     pub fn new(ends: EndReader<R>, child: Node<R>) -> Without<R>
         requires { ⟦<EndReader<R> as Reader>⟧.sound ends }
         ensures members { (z : ℕ) → Contains (tree_list (apart_of R.list R.all R.location R.left result)) z
-            ↔ (Contains (⟦<EndReader<R> as Reader>⟧.list ends) z × (Contains (tree_list (tree_of R.list R.all R.location R.left child)) z → ⊥)) }
+            ↔ (Contains (⟦<EndReader<R> as Reader>⟧.list ends) z
+            × (Contains (tree_list (tree_of R.list R.all R.location R.left child)) z → ⊥)) }
         ensures unmoved { ⟦<EndReader<R> as Reader>⟧.location ends ≡ first_from (⟦<EndReader<R> as Reader>⟧.list ends) 0
-            → IsUnmoved (tree_of R.list R.all R.location R.left child) → IsUnmoved (apart_of R.list R.all R.location R.left result) }
-        ensures tree { apart_of R.list R.all R.location R.left result ≡ without 0 (reading_of R.list R.all R.location R.left ends) (tree_of R.list R.all R.location R.left child) }
+            → IsUnmoved (tree_of R.list R.all R.location R.left child)
+            → IsUnmoved (apart_of R.list R.all R.location R.left result) }
+        ensures tree { apart_of R.list R.all R.location R.left result
+            ≡ without 0 (reading_of R.list R.all R.location R.left ends)
+            (tree_of R.list R.all R.location R.left child) }
     {
         Without {
             ends: Ends::new(ends),
@@ -59,14 +63,16 @@ impl<R: BackReader> Without<R> {
 
 /// The node of an intersection.
 fn joint<R: BackReader>(nodes: Vec<Node<R>>) -> Node<R>
-    ensures { tree_of R.list R.all R.location R.left result ≡ all_of (trees_in R.list R.all R.location R.left nodes.items) }
+    ensures { tree_of R.list R.all R.location R.left result
+        ≡ all_of (trees_in R.list R.all R.location R.left nodes.items) }
 {
     Node::AllOf(nodes)
 }
 
 /// The node of a union.
 fn united<R: BackReader>(nodes: Vec<Node<R>>) -> Node<R>
-    ensures { tree_of R.list R.all R.location R.left result ≡ any_of (trees_in R.list R.all R.location R.left nodes.items) }
+    ensures { tree_of R.list R.all R.location R.left result
+        ≡ any_of (trees_in R.list R.all R.location R.left nodes.items) }
 {
     Node::AnyOf(nodes)
 }
@@ -74,7 +80,8 @@ fn united<R: BackReader>(nodes: Vec<Node<R>>) -> Node<R>
 impl<R: BackReader> Node<R> {
     /// The tree of one `Found`.
     pub fn found(reader: Box<Found<R>>) -> Node<R>
-        ensures { tree_of R.list R.all R.location R.left result ≡ found (walk_of R.list R.all R.location R.left reader.value) }
+        ensures { tree_of R.list R.all R.location R.left result
+            ≡ found (walk_of R.list R.all R.location R.left reader.value) }
     {
         Node::Found(reader)
     }
@@ -82,10 +89,13 @@ impl<R: BackReader> Node<R> {
     /// The intersection of the trees.
     pub fn all_of(nodes: Vec<Node<R>>) -> Node<R>
         ensures members { (z : ℕ) → Contains (tree_list (tree_of R.list R.all R.location R.left result)) z
-            ↔ ((0 < length nodes.items) × All (λ n. Contains (tree_list (tree_of R.list R.all R.location R.left n)) z) nodes.items) }
-        ensures unmoved { 0 < length nodes.items → All (λ n. IsUnmoved (tree_of R.list R.all R.location R.left n)) nodes.items
+            ↔ ((0 < length nodes.items)
+            × All (λ n. Contains (tree_list (tree_of R.list R.all R.location R.left n)) z) nodes.items) }
+        ensures unmoved { 0 < length nodes.items
+            → All (λ n. IsUnmoved (tree_of R.list R.all R.location R.left n)) nodes.items
             → IsUnmoved (tree_of R.list R.all R.location R.left result) }
-        ensures tree { tree_of R.list R.all R.location R.left result ≡ all_of (trees_in R.list R.all R.location R.left nodes.items) }
+        ensures tree { tree_of R.list R.all R.location R.left result
+            ≡ all_of (trees_in R.list R.all R.location R.left nodes.items) }
     {
         joint(nodes)
     }
@@ -94,8 +104,10 @@ impl<R: BackReader> Node<R> {
     pub fn any_of(nodes: Vec<Node<R>>) -> Node<R>
         ensures members { (z : ℕ) → Contains (tree_list (tree_of R.list R.all R.location R.left result)) z
             ↔ Any (λ n. Contains (tree_list (tree_of R.list R.all R.location R.left n)) z) nodes.items }
-        ensures unmoved { All (λ n. IsUnmoved (tree_of R.list R.all R.location R.left n)) nodes.items → IsUnmoved (tree_of R.list R.all R.location R.left result) }
-        ensures tree { tree_of R.list R.all R.location R.left result ≡ any_of (trees_in R.list R.all R.location R.left nodes.items) }
+        ensures unmoved { All (λ n. IsUnmoved (tree_of R.list R.all R.location R.left n)) nodes.items
+            → IsUnmoved (tree_of R.list R.all R.location R.left result) }
+        ensures tree { tree_of R.list R.all R.location R.left result
+            ≡ any_of (trees_in R.list R.all R.location R.left nodes.items) }
     {
         united(nodes)
     }

@@ -34,7 +34,8 @@ impl<R: BackReader> Model for DocReader<R> {
 
     ghost view = { λ s. view_of (tree_of R.list R.all R.location R.left s.node) };
 
-    ghost invariant = { λ s. IsSoundTree (tree_of R.list R.all R.location R.left s.node) × (0 < s.at) × (s.at ≡ tree_place (tree_of R.list R.all R.location R.left s.node)) };
+    ghost invariant = { λ s. IsSoundTree (tree_of R.list R.all R.location R.left s.node) × (0 < s.at)
+        × (s.at ≡ tree_place (tree_of R.list R.all R.location R.left s.node)) };
 }
 
 impl<R: BackReader> DocReader<R> {
@@ -43,12 +44,16 @@ impl<R: BackReader> DocReader<R> {
     pub fn new<L: Ledger>(node: Node<R>, steps: &mut Steps<L>) -> DocReader<R>
         requires { IsUnmoved (tree_of R.list R.all R.location R.left node) }
         ensures sound { ⟦<DocReader<R> as Reader>⟧.sound result }
-        ensures list { ⟦<DocReader<R> as Reader>⟧.list result ≡ tree_list (tree_of R.list R.all R.location R.left node) }
+        ensures list { ⟦<DocReader<R> as Reader>⟧.list result
+            ≡ tree_list (tree_of R.list R.all R.location R.left node) }
         ensures all { ⟦<DocReader<R> as Reader>⟧.all result ≡ tree_all (tree_of R.list R.all R.location R.left node) }
-        ensures location { ⟦<DocReader<R> as Reader>⟧.location result ≡ first_from (tree_list (tree_of R.list R.all R.location R.left node)) 1 }
+        ensures location { ⟦<DocReader<R> as Reader>⟧.location result
+            ≡ first_from (tree_list (tree_of R.list R.all R.location R.left node)) 1 }
         ensures one_found { IsOneFound (tree_of R.list R.all R.location R.left node) → IsTrue result.one }
-        ensures left { ⟦<DocReader<R> as Reader>⟧.left result ≤ tree_left (tree_of R.list R.all R.location R.left node) }
-        ensures steps { steps.new + ⟦<DocReader<R> as Reader>⟧.left result ≤ steps.old + tree_left (tree_of R.list R.all R.location R.left node) }
+        ensures left { ⟦<DocReader<R> as Reader>⟧.left result
+            ≤ tree_left (tree_of R.list R.all R.location R.left node) }
+        ensures steps { steps.new + ⟦<DocReader<R> as Reader>⟧.left result
+            ≤ steps.old + tree_left (tree_of R.list R.all R.location R.left node) }
     {
         DocReader::starting_at(node, 1, steps)
     }
@@ -60,12 +65,16 @@ impl<R: BackReader> DocReader<R> {
         requires some { 0 < place }
         requires top { place ≤ TOP }
         ensures sound { ⟦<DocReader<R> as Reader>⟧.sound result }
-        ensures list { ⟦<DocReader<R> as Reader>⟧.list result ≡ tree_list (tree_of R.list R.all R.location R.left node) }
+        ensures list { ⟦<DocReader<R> as Reader>⟧.list result
+            ≡ tree_list (tree_of R.list R.all R.location R.left node) }
         ensures all { ⟦<DocReader<R> as Reader>⟧.all result ≡ tree_all (tree_of R.list R.all R.location R.left node) }
-        ensures location { ⟦<DocReader<R> as Reader>⟧.location result ≡ first_from (tree_list (tree_of R.list R.all R.location R.left node)) place }
+        ensures location { ⟦<DocReader<R> as Reader>⟧.location result
+            ≡ first_from (tree_list (tree_of R.list R.all R.location R.left node)) place }
         ensures one_found { IsOneFound (tree_of R.list R.all R.location R.left node) → IsTrue result.one }
-        ensures left { ⟦<DocReader<R> as Reader>⟧.left result ≤ tree_left (tree_of R.list R.all R.location R.left node) }
-        ensures steps { steps.new + ⟦<DocReader<R> as Reader>⟧.left result ≤ steps.old + tree_left (tree_of R.list R.all R.location R.left node) }
+        ensures left { ⟦<DocReader<R> as Reader>⟧.left result
+            ≤ tree_left (tree_of R.list R.all R.location R.left node) }
+        ensures steps { steps.new + ⟦<DocReader<R> as Reader>⟧.left result
+            ≤ steps.old + tree_left (tree_of R.list R.all R.location R.left node) }
     {
         let mut node = node;
         let at = seek(&mut node, place, steps);
@@ -107,9 +116,11 @@ impl<R: BackReader> Reader for DocReader<R> {
         ensures sound { ⟦<DocReader<R> as Reader>⟧.sound self.new }
         ensures list { ⟦<DocReader<R> as Reader>⟧.list self.new ≡ ⟦<DocReader<R> as Reader>⟧.list self.old }
         ensures all { ⟦<DocReader<R> as Reader>⟧.all self.new ≡ ⟦<DocReader<R> as Reader>⟧.all self.old }
-        ensures location { ⟦<DocReader<R> as Reader>⟧.location self.new ≡ first_from (⟦<DocReader<R> as Reader>⟧.list self.old) (⟦<DocReader<R> as Reader>⟧.location self.old + 1) }
+        ensures location { ⟦<DocReader<R> as Reader>⟧.location self.new
+            ≡ first_from (⟦<DocReader<R> as Reader>⟧.list self.old) (⟦<DocReader<R> as Reader>⟧.location self.old + 1) }
         ensures falls { ⟦<DocReader<R> as Reader>⟧.left self.new < ⟦<DocReader<R> as Reader>⟧.left self.old }
-        ensures steps { steps.new + ⟦<DocReader<R> as Reader>⟧.left self.new ≤ steps.old + ⟦<DocReader<R> as Reader>⟧.left self.old }
+        ensures steps { steps.new + ⟦<DocReader<R> as Reader>⟧.left self.new
+            ≤ steps.old + ⟦<DocReader<R> as Reader>⟧.left self.old }
         ensures cost { steps.new ≤ steps.old + ⟦<DocReader<R> as Reader>⟧.cost self.old }
         ensures one_found { IsTrue self.old.one → IsTrue self.new.one }
     {
@@ -124,9 +135,11 @@ impl<R: BackReader> Reader for DocReader<R> {
         ensures sound { ⟦<DocReader<R> as Reader>⟧.sound self.new }
         ensures list { ⟦<DocReader<R> as Reader>⟧.list self.new ≡ ⟦<DocReader<R> as Reader>⟧.list self.old }
         ensures all { ⟦<DocReader<R> as Reader>⟧.all self.new ≡ ⟦<DocReader<R> as Reader>⟧.all self.old }
-        ensures location { ⟦<DocReader<R> as Reader>⟧.location self.new ≡ first_from (⟦<DocReader<R> as Reader>⟧.list self.old) to }
+        ensures location { ⟦<DocReader<R> as Reader>⟧.location self.new
+            ≡ first_from (⟦<DocReader<R> as Reader>⟧.list self.old) to }
         ensures falls { ⟦<DocReader<R> as Reader>⟧.left self.new < ⟦<DocReader<R> as Reader>⟧.left self.old }
-        ensures steps { steps.new + ⟦<DocReader<R> as Reader>⟧.left self.new ≤ steps.old + ⟦<DocReader<R> as Reader>⟧.left self.old }
+        ensures steps { steps.new + ⟦<DocReader<R> as Reader>⟧.left self.new
+            ≤ steps.old + ⟦<DocReader<R> as Reader>⟧.left self.old }
         ensures cost { steps.new ≤ steps.old + ⟦<DocReader<R> as Reader>⟧.cost self.old }
         ensures one_found { IsTrue self.old.one → IsTrue self.new.one }
     {

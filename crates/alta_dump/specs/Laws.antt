@@ -22,4 +22,5 @@ AnswersAlike s t q = map name_of (answers t.documents q) ≡ map name_of (answer
 
 -- The state that the add lines of a dump make answers each query for folded words as the state that was dumped.
 abbrev pub AnswersAgain : Type 0
-AnswersAgain = (s : State) (q : Shape) → IsRestorable s → IsWellFormed q → AsksForFoldings q → AnswersAlike s (restored s.documents) q
+AnswersAgain = (s : State) (q : Shape) → IsRestorable s → IsWellFormed q → AsksForFoldings q
+    → AnswersAlike s (restored s.documents) q

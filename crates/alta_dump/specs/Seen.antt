@@ -37,7 +37,8 @@ AreFolded terms (held ∷ words) (cell ∷ cells) = AreFoldings terms held (of_k
 
 -- exactly the last of these cells ends a document
 abbrev pub EndAtLast : List (List (List ℕ)) → Type 0
-EndAtLast cells = (place : ℕ) → place < length cells → ends_document (get_or cells place []) ≡ nat_eq (place + 1) (length cells)
+EndAtLast cells = (place : ℕ) → place < length cells → ends_document (get_or cells place [])
+    ≡ nat_eq (place + 1) (length cells)
 
 -- These are the cells: their folded words, and where titles end; the document ends at the last.
 pub record AreSeen (terms : List (List ℕ)) (words titles : List Held) (cells : List (List (List ℕ))) : Type 0 where
@@ -81,4 +82,5 @@ pub record IsRebuiltFrom (terms : List (List ℕ)) (own : List ℕ) (words title
 -- The document has a name, and these functions tell what was seen at the places of its cells.
 pub record IsRowSeen (terms : List (List ℕ)) (words titles : ℕ → Held) (a : Added) : Type 0 where
   pub named : IsName a.row.name
-  pub seen : AreSeen terms (map words (locations_from a.row.first a.row.cells)) (map titles (locations_from a.row.first a.row.cells)) a.cells
+  pub seen : AreSeen terms (map words (locations_from a.row.first a.row.cells))
+      (map titles (locations_from a.row.first a.row.cells)) a.cells

@@ -37,7 +37,9 @@ pub(crate) fn comes_again(
     titles: &[PackedHeld],
 ) -> Result<bool, AllocError>
     requires titles { length titles.now ≡ length words.now }
-    ensures { IfOk result (λ b. (seen : List (List (List ℕ))) → IsName name.now → list_all (is_word (terms_of terms.now)) words.now ≡ true → AreSeen (terms_of terms.now) words.now titles.now seen
+    ensures { IfOk result (λ b. (seen : List (List (List ℕ))) → IsName name.now
+        → list_all (is_word (terms_of terms.now)) words.now ≡ true
+        → AreSeen (terms_of terms.now) words.now titles.now seen
         → b ≡ lines.are_alike (cells_of name.now title.now body.now) seen) }
 {
     match cells(alloc, name, title, body) {
@@ -56,7 +58,8 @@ fn are_alike(
 ) -> bool
     requires few { All HasFewFoldings again.now }
     requires titles { length titles.now ≡ length words.now }
-    ensures { (seen : List (List (List ℕ))) → list_all (is_word (terms_of terms.now)) words.now ≡ true → AreSeen (terms_of terms.now) words.now titles.now seen
+    ensures { (seen : List (List (List ℕ))) → list_all (is_word (terms_of terms.now)) words.now ≡ true
+        → AreSeen (terms_of terms.now) words.now titles.now seen
         → result ≡ lines.are_alike again.now seen }
 {
     if again.len() != words.len() {
@@ -88,7 +91,8 @@ fn is_alike(
     last: bool,
 ) -> bool
     requires { HasFewFoldings cell.now }
-    ensures { (seen : List (List ℕ)) → AreFoldings (terms_of terms.now) word (of_kind word_kind seen) → is_held title ≡ ends_title seen → last ≡ ends_document seen
+    ensures { (seen : List (List ℕ)) → AreFoldings (terms_of terms.now) word (of_kind word_kind seen)
+        → is_held title ≡ ends_title seen → last ≡ ends_document seen
         → result ≡ lines.is_alike cell.now seen }
 {
     has_foldings(cell, terms, word)
@@ -99,7 +103,8 @@ fn is_alike(
 // Whether the cell, which has one folded word at most, has those that were seen.
 fn has_foldings(cell: &Cell, terms: &[TermLists], word: PackedHeld) -> bool
     requires { HasFewFoldings cell.now }
-    ensures { (seen : List (List ℕ)) → AreFoldings (terms_of terms.now) word (of_kind word_kind seen) → result ≡ lines.are_same (of_kind word_kind cell.now) (of_kind word_kind seen) }
+    ensures { (seen : List (List ℕ)) → AreFoldings (terms_of terms.now) word (of_kind word_kind seen)
+        → result ≡ lines.are_same (of_kind word_kind cell.now) (of_kind word_kind seen) }
 {
     match word.unpack() {
         Held::Never => !cell.begins(&[WORD]),

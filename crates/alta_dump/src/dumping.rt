@@ -67,8 +67,11 @@ fn written(
     requires rising { IsRising (ends_of rows.now) }
     requires live { All (λ i. i < length rows.now) live.now }
     requires titles { length titles.now ≡ length words.now }
-    ensures text { IfOk result (λ text. (documents : List Added) (f g : ℕ → Held) → rows_at rows.now live.now ≡ map row_in documents → words.now ≡ map f (places_of (rows_at rows.now live.now))
-        → titles.now ≡ map g (places_of (rows_at rows.now live.now)) → All (IsRowSeen (terms_of terms.now) f g) documents → string_bytes text ≡ dumped (map document_in documents)) }
+    ensures text { IfOk result (λ text. (documents : List Added) (f g : ℕ → Held)
+        → rows_at rows.now live.now ≡ map row_in documents
+        → words.now ≡ map f (places_of (rows_at rows.now live.now))
+        → titles.now ≡ map g (places_of (rows_at rows.now live.now))
+        → All (IsRowSeen (terms_of terms.now) f g) documents → string_bytes text ≡ dumped (map document_in documents)) }
     ensures other { IfOk result (λ text. starts_with nat_eq (string_bytes text) (codes "! ") ≡ false) }
 {
     let mut text = String::new(alloc);
@@ -79,7 +82,8 @@ fn written(
 
 // Writes how many lines there are.
 fn put_count(text: &mut String, count: u64) -> Result<(), AllocError>
-    ensures { OnOk result (string_bytes text.new ≡ string_bytes text.old ++ codes "dumped " ++ decimal count ++ codes "\n") }
+    ensures { OnOk result (string_bytes text.new ≡ string_bytes text.old ++ codes "dumped "
+        ++ decimal count ++ codes "\n") }
 {
     write!(text, "dumped {count}\n")
 }
@@ -98,9 +102,13 @@ fn put_documents(
     requires rising { IsRising (ends_of rows.now) }
     requires live { All (λ i. i < length rows.now) live.now }
     requires titles { length titles.now ≡ length words.now }
-    ensures lines { IfOk result (λ count. (documents : List Added) (f g : ℕ → Held) → rows_at rows.now live.now ≡ map row_in documents → words.now ≡ map f (places_of (rows_at rows.now live.now))
-        → titles.now ≡ map g (places_of (rows_at rows.now live.now)) → All (IsRowSeen (terms_of terms.now) f g) documents
-        → (string_bytes text.new ≡ lines_for (map document_in documents)) × (count ≡ count_lines (map document_in documents))) }
+    ensures lines { IfOk result (λ count. (documents : List Added) (f g : ℕ → Held)
+        → rows_at rows.now live.now ≡ map row_in documents
+        → words.now ≡ map f (places_of (rows_at rows.now live.now))
+        → titles.now ≡ map g (places_of (rows_at rows.now live.now))
+        → All (IsRowSeen (terms_of terms.now) f g) documents
+        → (string_bytes text.new ≡ lines_for (map document_in documents))
+        × (count ≡ count_lines (map document_in documents))) }
     ensures other { OnOk result (slice_index (string_bytes text.new) 0 ≢ 33) }
 {
     let mut from = 0;
@@ -126,10 +134,13 @@ fn put_document(
     titles: &[PackedHeld],
 ) -> Result<u64, AllocError>
     requires { length titles.now ≡ length words.now }
-    ensures line { IfOk result (λ count. (d : Document) → d.number ≡ row.now.number → d.name ≡ row.now.name → IsName d.name → AreSeen (terms_of terms.now) words.now titles.now d.cells
-        → (string_bytes text.new ≡ string_bytes text.old ++ line_or_skipped d (line_of d)) × (count ≡ cond (is_some (line_of d)) 1 0)) }
+    ensures line { IfOk result (λ count. (d : Document) → d.number ≡ row.now.number → d.name ≡ row.now.name
+        → IsName d.name → AreSeen (terms_of terms.now) words.now titles.now d.cells
+        → (string_bytes text.new ≡ string_bytes text.old ++ line_or_skipped d (line_of d))
+        × (count ≡ cond (is_some (line_of d)) 1 0)) }
     ensures most { IfOk result (λ count. count ≤ 1) }
-    ensures other { OnOk result (slice_index (string_bytes text.old) 0 ≢ 33 → slice_index (string_bytes text.new) 0 ≢ 33) }
+    ensures other { OnOk result (slice_index (string_bytes text.old) 0 ≢ 33
+        → slice_index (string_bytes text.new) 0 ≢ 33) }
 {
     let name = row.name.as_str();
     let found = line(alloc, terms, name, words, titles)?;
@@ -155,7 +166,8 @@ fn put_line(text: &mut String, line: String) -> Result<(), AllocError>
 
 // Writes that the document is skipped.
 fn put_skipped(text: &mut String, number: u64, name: &str) -> Result<(), AllocError>
-    ensures { OnOk result (string_bytes text.new ≡ string_bytes text.old ++ codes "skipped " ++ decimal number ++ codes " " ++ name.now ++ codes "\n") }
+    ensures { OnOk result (string_bytes text.new ≡ string_bytes text.old ++ codes "skipped " ++ decimal number
+        ++ codes " " ++ name.now ++ codes "\n") }
 {
     write!(text, "skipped {number} {name}\n")
 }

@@ -21,7 +21,8 @@ pub(crate) fn gather<L: Ledger>(
 ) -> Result<Vec<PackedHeld>, AllocError>
     requires cut { IsCut (map term_lists terms.now) }
     ensures held { IfOk result (λ held. held.items ≡ map (held_in (map concat (map term_lists terms.now))) places.now) }
-    ensures steps { steps.new ≤ steps.old + (count_lists (map term_lists terms.now) + count_locations (map term_lists terms.now)) }
+    ensures steps { steps.new ≤ steps.old + (count_lists (map term_lists terms.now)
+        + count_locations (map term_lists terms.now)) }
 {
     let mut held = never(alloc, places.len())?;
     for (i, term) in terms.iter().enumerate() {

@@ -17,12 +17,14 @@ pub fn a_line_is_decided()
 
 /// The line of a document with a proper name is read as the command that adds its name, title and body.
 pub fn a_line_reads_as_an_add()
-    ensures { (d : Document) (line : List ℕ) → IsName d.name → line_of d ≡ Some line → reading_of line ≡ asks (adds d.name (title_text d.cells) (body_text d.cells)) }
+    ensures { (d : Document) (line : List ℕ) → IsName d.name → line_of d ≡ Some line
+        → reading_of line ≡ asks (adds d.name (title_text d.cells) (body_text d.cells)) }
 {}
 
 /// A document that was added has its own name as the only name among its terms, in its first cell.
 pub fn an_added_document_has_its_name()
-    ensures { (number : ℕ) (name title body : List ℕ) → HasItsName (record { number = number; name = name; cells = cells_of name title body }) }
+    ensures { (number : ℕ) (name title body : List ℕ)
+        → HasItsName (record { number = number; name = name; cells = cells_of name title body }) }
 {}
 
 /// The add lines of a dump in which no document is skipped make a state that answers each query that asks for no word as it

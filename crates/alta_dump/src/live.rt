@@ -29,9 +29,11 @@ pub(crate) fn live<L: Ledger>(
     steps: &mut Steps<L>,
 ) -> Result<Vec<usize>, AllocError>
     ensures inside { IfOk result (λ live. All (λ i. i < length snapshot.now.rows) live.items) }
-    ensures rows { IfOk result (λ live. (documents : List Document) → snapshot.now.tests ≡ dump_tests → ShowsDocuments snapshot.now documents
+    ensures rows { IfOk result (λ live. (documents : List Document) → snapshot.now.tests ≡ dump_tests
+        → ShowsDocuments snapshot.now documents
         → rows_at snapshot.now.rows live.items ≡ live_rows snapshot.now.gone snapshot.now.rows) }
-    ensures steps { steps.new ≤ steps.old + (count_lists (slice_index_or snapshot.now.cuts 0 []) + count_locations (slice_index_or snapshot.now.cuts 0 [])) }
+    ensures steps { steps.new ≤ steps.old + (count_lists (slice_index_or snapshot.now.cuts 0 [])
+        + count_locations (slice_index_or snapshot.now.cuts 0 [])) }
 {
     let ends = snapshot.terms(0);
     let rows = snapshot.rows();
@@ -56,7 +58,8 @@ fn live_of<L: Ledger>(
     requires rising { IsRising (concat (term_lists term.now)) }
     requires gone { IsRising gone.now }
     ensures inside { IfOk result (λ live. All (λ i. i < length rows.now) live.items) }
-    ensures rows { IfOk result (λ live. rows_at rows.now live.items ≡ answers_in (concat (term_lists term.now)) gone.now 0 rows.now) }
+    ensures rows { IfOk result (λ live. rows_at rows.now live.items
+        ≡ answers_in (concat (term_lists term.now)) gone.now 0 rows.now) }
     ensures steps { steps.new ≤ steps.old + (length (term_lists term.now) + length (concat (term_lists term.now))) }
 {
     let mut reader = chain(alloc, &term.levels, steps)?;
@@ -75,7 +78,8 @@ fn live_ends<L: Ledger>(
     requires unmoved { term_place ends.old ≡ first_from (term_list ends.old) 0 }
     requires gone { IsRising gone.now }
     ensures inside { IfOk result (λ live. All (λ i. i < length all.now) live.items) }
-    ensures rows { IfOk result (λ live. rows_at all.now live.items ≡ answers_in (term_list ends.old) gone.now 0 all.now) }
+    ensures rows { IfOk result (λ live. rows_at all.now live.items
+        ≡ answers_in (term_list ends.old) gone.now 0 all.now) }
     ensures steps { steps.new ≤ steps.old + term_left ends.old }
 {
     let mut rows = all.walk();
@@ -98,9 +102,11 @@ fn put_live(
     requires gone { IsRising gone.now }
     ensures rows { rows.new.rows ≡ rows.old.rows }
     ensures past { IsPast rows.new end }
-    ensures inside { OnOk result (All (λ i. i < length rows.old.rows) live.old.items → All (λ i. i < length rows.old.rows) live.new.items) }
+    ensures inside { OnOk result (All (λ i. i < length rows.old.rows) live.old.items
+        → All (λ i. i < length rows.old.rows) live.new.items) }
     ensures taken { OnOk result ((list : List ℕ) → Contains list end → IsRising (ends_of rows.old.rows)
-        → rows_at rows.old.rows live.new.items ++ answers_in list gone.now (end + 1) rows.old.rows ≡ rows_at rows.old.rows live.old.items ++ answers_in list gone.now end rows.old.rows) }
+        → rows_at rows.old.rows live.new.items ++ answers_in list gone.now (end + 1) rows.old.rows
+        ≡ rows_at rows.old.rows live.old.items ++ answers_in list gone.now end rows.old.rows) }
 {
     match live_row(rows, gone, end) {
         Some(index) => {
@@ -126,7 +132,8 @@ pub(crate) fn row_at<'a>(rows: &'a AllRows, live: &[usize], i: usize) -> &'a Doc
 pub(crate) fn places(alloc: Global, rows: &AllRows, live: &[usize]) -> Result<Places, AllocError>
     requires rising { IsRising (ends_of rows.now) }
     requires inside { All (λ i. i < length rows.now) live.now }
-    ensures { IfOk result (λ places. RowsRise (rows_at rows.now live.now) → places ≡ places_of (rows_at rows.now live.now)) }
+    ensures { IfOk result (λ places. RowsRise (rows_at rows.now live.now)
+        → places ≡ places_of (rows_at rows.now live.now)) }
 {
     let mut places = Places::new(alloc);
     'live: for i in 0..live.len() {
@@ -138,7 +145,8 @@ pub(crate) fn places(alloc: Global, rows: &AllRows, live: &[usize]) -> Result<Pl
 // These places, and those of a row that are above them.
 fn with_row(places: Places, row: &DocRow) -> Result<Places, AllocError>
     requires { end_of row.now < TOP }
-    ensures { IfOk result (λ more. 1 ≤ row.now.first → All (λ p. p < row.now.first) places → more ≡ places ++ locations_from row.now.first row.now.cells) }
+    ensures { IfOk result (λ more. 1 ≤ row.now.first → All (λ p. p < row.now.first) places
+        → more ≡ places ++ locations_from row.now.first row.now.cells) }
 {
     let more = places.with(row.first, row.first + row.cells)?;
     Ok(more)

@@ -28,7 +28,9 @@ pub(crate) fn line(
     titles: &[PackedHeld],
 ) -> Result<Option<String>, AllocError>
     requires titles { length titles.now ≡ length words.now }
-    ensures line { (d : Document) → d.name ≡ name.now → IsName d.name → AreSeen (terms_of terms.now) words.now titles.now d.cells → IfOk result (λ line. option_map string_bytes line ≡ line_of d) }
+    ensures line { (d : Document) → d.name ≡ name.now → IsName d.name
+        → AreSeen (terms_of terms.now) words.now titles.now d.cells
+        → IfOk result (λ line. option_map string_bytes line ≡ line_of d) }
     ensures begins { IfOk result (λ line. IfSome line (λ l. slice_index (string_bytes l) 0 ≡ 97)) }
 {
     match plain_place(terms, words, titles) {
@@ -49,7 +51,8 @@ fn line_at(
     requires titles { length titles.now ≡ length words.now }
     requires some { 0 < place }
     requires within { place + 1 < length words.now }
-    ensures line { (d : Document) → IsRebuiltFrom (terms_of terms.now) name.now words.now titles.now d → IsTitlePlace place d.cells → IfOk result (λ line. option_map string_bytes line ≡ line_of d) }
+    ensures line { (d : Document) → IsRebuiltFrom (terms_of terms.now) name.now words.now titles.now d
+        → IsTitlePlace place d.cells → IfOk result (λ line. option_map string_bytes line ≡ line_of d) }
     ensures begins { IfOk result (λ line. IfSome line (λ l. slice_index (string_bytes l) 0 ≡ 97)) }
 {
     let title = text(alloc, terms, &words[1..place])?;
@@ -68,7 +71,8 @@ fn line_with(
     titles: &[PackedHeld],
 ) -> Result<Option<String>, AllocError>
     requires { length titles.now ≡ length words.now }
-    ensures line { (d : Document) → IsRebuiltFrom (terms_of terms.now) name.now words.now titles.now d → title.now ≡ title_text d.cells → body.now ≡ body_text d.cells
+    ensures line { (d : Document) → IsRebuiltFrom (terms_of terms.now) name.now words.now titles.now d
+        → title.now ≡ title_text d.cells → body.now ≡ body_text d.cells
         → IfOk result (λ line. option_map string_bytes line ≡ line_of d) }
     ensures begins { IfOk result (λ line. IfSome line (λ l. slice_index (string_bytes l) 0 ≡ 97)) }
 {
@@ -102,7 +106,8 @@ fn has_tab(text: &str) -> bool
 
 // The place of the cell that ends the title, if the document is plain.
 fn plain_place(terms: &[TermLists], words: &[PackedHeld], titles: &[PackedHeld]) -> Option<usize>
-    ensures plain { (cells : List (List (List ℕ))) → AreFolded (terms_of terms.now) words.now cells → map is_held titles.now ≡ map ends_title cells
+    ensures plain { (cells : List (List (List ℕ))) → AreFolded (terms_of terms.now) words.now cells
+        → map is_held titles.now ≡ map ends_title cells
         → MatchOption result (is_plain cells ≡ false) (λ place. (is_plain cells ≡ true) × IsTitlePlace place cells) }
     ensures within { IfSome result (λ place. (0 < place) × (place + 1 < length titles.now)) }
 {

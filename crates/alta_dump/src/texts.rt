@@ -37,7 +37,8 @@ pub(crate) fn text(
     terms: &[TermLists],
     words: &[PackedHeld],
 ) -> Result<String, AllocError>
-    ensures { IfOk result (λ text. list_all (is_word (terms_of terms.now)) words.now ≡ true → string_bytes text ≡ text_seen (terms_of terms.now) words.now) }
+    ensures { IfOk result (λ text. list_all (is_word (terms_of terms.now)) words.now ≡ true
+        → string_bytes text ≡ text_seen (terms_of terms.now) words.now) }
 {
     let mut text = String::new(alloc);
     for (i, held) in words.iter().enumerate() {
@@ -53,7 +54,9 @@ fn put_word(
     terms: &[TermLists],
     held: PackedHeld,
 ) -> Result<(), AllocError>
-    ensures { OnOk result (is_word (terms_of terms.now) held ≡ true → string_bytes text.new ≡ string_bytes text.old ++ (if first then word_at (terms_of terms.now) held else 32 ∷ word_at (terms_of terms.now) held)) }
+    ensures { OnOk result (is_word (terms_of terms.now) held ≡ true
+        → string_bytes text.new ≡ string_bytes text.old
+        ++ (if first then word_at (terms_of terms.now) held else 32 ∷ word_at (terms_of terms.now) held)) }
 {
     match word(terms, held) {
         Some(word) => put_spaced(text, first, word),
@@ -63,7 +66,8 @@ fn put_word(
 
 // Appends a word, behind a space unless it is the first.
 fn put_spaced(text: &mut String, first: bool, word: &str) -> Result<(), AllocError>
-    ensures { OnOk result (string_bytes text.new ≡ string_bytes text.old ++ (if first then word.now else 32 ∷ word.now)) }
+    ensures { OnOk result (string_bytes text.new ≡ string_bytes text.old
+        ++ (if first then word.now else 32 ∷ word.now)) }
 {
     if first {
         return text.push_str(word);
@@ -74,7 +78,8 @@ fn put_spaced(text: &mut String, first: bool, word: &str) -> Result<(), AllocErr
 
 // The word of a cell, if it is one at most, and text.
 fn word(terms: &[TermLists], held: PackedHeld) -> Option<&str>
-    ensures { MatchOption result (is_word (terms_of terms.now) held ≡ false) (λ word. (is_word (terms_of terms.now) held ≡ true) × (word.now ≡ word_at (terms_of terms.now) held)) }
+    ensures { MatchOption result (is_word (terms_of terms.now) held ≡ false)
+        (λ word. (is_word (terms_of terms.now) held ≡ true) × (word.now ≡ word_at (terms_of terms.now) held)) }
 {
     match held.unpack() {
         Held::Never => Some(TOO_LONG),
@@ -85,7 +90,8 @@ fn word(terms: &[TermLists], held: PackedHeld) -> Option<&str>
 
 // The bytes, if they are text.
 fn text_of(bytes: &[u8]) -> Option<&str>
-    ensures { MatchOption result (is_utf8 bytes.now ≡ false) (λ text. (is_utf8 bytes.now ≡ true) × (text.now ≡ bytes.now)) }
+    ensures { MatchOption result (is_utf8 bytes.now ≡ false) (λ text. (is_utf8 bytes.now ≡ true)
+        × (text.now ≡ bytes.now)) }
 {
     match from_utf8(bytes) {
         Ok(text) => Some(text),

@@ -14,11 +14,13 @@ use Rattle.alta_session.specs.Damage.{FirstFindsDamage, FirstWantsPlace}
 
 -- The first line of a front of the input that was not answered finds damage at this place in what a copy holds then,
 abbrev pub FindDamage : List ℕ → ℕ → Type 0
-FindDamage lines place = (copy front : List ℕ) × IsPrefix front lines × ((answered : ℕ) × FirstFindsDamage copy (drop answered (lines_of front)) place)
+FindDamage lines place = (copy front : List ℕ) × IsPrefix front lines
+    × ((answered : ℕ) × FirstFindsDamage copy (drop answered (lines_of front)) place)
 
 -- or wants a place for so many bytes, where the greatest gap has that many.
 abbrev pub WantPlace : List ℕ → ℕ → ℕ → Type 0
-WantPlace lines need gap = (copy front : List ℕ) × IsPrefix front lines × ((answered : ℕ) × FirstWantsPlace INDEX_LIMIT copy (drop answered (lines_of front)) need gap)
+WantPlace lines need gap = (copy front : List ℕ) × IsPrefix front lines
+    × ((answered : ℕ) × FirstWantsPlace INDEX_LIMIT copy (drop answered (lines_of front)) need gap)
 
 -- The cause of a refusal. Want of memory has none in the bytes.
 pub record IsCaused (index lines : List ℕ) (refusal : Refusal) : Type 0 where

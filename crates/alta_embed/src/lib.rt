@@ -27,7 +27,8 @@ pub extern "C" fn alta_embed_answer(
     replies: &mut [u8],
     detail: &mut u64,
 ) -> i64
-    ensures replies { (s : State) (n : ℕ) → StandsFor s index.now → result ≡ pos n → take n replies.new ≡ replies_to s lines.now }
+    ensures replies { (s : State) (n : ℕ) → StandsFor s index.now → result ≡ pos n
+        → take n replies.new ≡ replies_to s lines.now }
     ensures returns { Returns index.now lines.now replies.old replies.new result detail.new }
 {
     match answer(alloc, index, lines, replies) {

@@ -47,19 +47,23 @@ Spells (end_field next) bytes x rest = (bytes ≡ []) × Spells next bytes x res
 Spells (number_field kind rule next) bytes x rest =
     (n : ℕ) × (behind : List ℕ) × HasNumber kind bytes n behind × IsTrue (rule n) × Spells (next n) behind x rest
 Spells (text_field len rule next) bytes x rest =
-    (text : List ℕ) × (behind : List ℕ) × HasText len bytes text behind × IsTrue (rule text) × Spells (next text) behind x rest
+    (text : List ℕ) × (behind : List ℕ) × HasText len bytes text behind × IsTrue (rule text)
+    × Spells (next text) behind x rest
 
 -- Where the first field breaks its rule, by how many bytes are left there: no value of this field that keeps the
 -- rule stands there, while all fields before it keep theirs.
 unfoldable pub IsBroken : {A : Type 0} → Format A → List ℕ → ℕ → Type 0
 IsBroken (ends a) bytes left = ⊥
-IsBroken (end_field next) bytes left = ((left ≡ length bytes) × (bytes ≡ [] → ⊥)) ⊎ ((bytes ≡ []) × IsBroken next bytes left)
+IsBroken (end_field next) bytes left = ((left ≡ length bytes) × (bytes ≡ [] → ⊥))
+    ⊎ ((bytes ≡ []) × IsBroken next bytes left)
 IsBroken (number_field kind rule next) bytes left =
     ((left ≡ length bytes) × ((n : ℕ) → (behind : List ℕ) → HasNumber kind bytes n behind → IsTrue (rule n) → ⊥))
     ⊎ ((n : ℕ) × (behind : List ℕ) × HasNumber kind bytes n behind × IsTrue (rule n) × IsBroken (next n) behind left)
 IsBroken (text_field len rule next) bytes left =
-    ((left ≡ length bytes) × ((text : List ℕ) → (behind : List ℕ) → HasText len bytes text behind → IsTrue (rule text) → ⊥))
-    ⊎ ((text : List ℕ) × (behind : List ℕ) × HasText len bytes text behind × IsTrue (rule text) × IsBroken (next text) behind left)
+    ((left ≡ length bytes) × ((text : List ℕ) → (behind : List ℕ) → HasText len bytes text behind
+    → IsTrue (rule text) → ⊥))
+    ⊎ ((text : List ℕ) × (behind : List ℕ) × HasText len bytes text behind × IsTrue (rule text)
+    × IsBroken (next text) behind left)
 
 -- ---- what reading finds: a value and the rest, or how many bytes are left at the fault
 
@@ -76,7 +80,8 @@ unfoldable pub number_of : Kind → List ℕ → Result (ℕ × List ℕ) ℕ
 number_of packed bytes = packed_from bytes (number_from 9 0 bytes)
 number_of byte [] = Err 0
 number_of byte (b ∷ bytes) = Ok (b, bytes)
-number_of wide bytes = if nat_lt (length bytes) 8 then Err (length bytes) else Ok (from_be_bytes w64 (take 8 bytes), drop 8 bytes)
+number_of wide bytes = if nat_lt (length bytes) 8 then Err (length bytes)
+    else Ok (from_be_bytes w64 (take 8 bytes), drop 8 bytes)
 
 unfoldable pub text_of : ℕ → List ℕ → Result (List ℕ × List ℕ) ℕ
 text_of len bytes = if nat_lt (length bytes) len then Err (length bytes) else Ok (take len bytes, drop len bytes)
@@ -84,8 +89,10 @@ text_of len bytes = if nat_lt (length bytes) len then Err (length bytes) else Ok
 unfoldable pub read : {A : Type 0} → Format A → List ℕ → Result (A × List ℕ) ℕ
 read (ends a) bytes = Ok (a, bytes)
 read (end_field next) bytes = if length bytes == 0 then read next bytes else Err (length bytes)
-read (number_field kind rule next) bytes = number_of kind bytes >>= λ x. if rule x.0 then read (next x.0) x.1 else Err (length bytes)
-read (text_field len rule next) bytes = text_of len bytes >>= λ x. if rule x.0 then read (next x.0) x.1 else Err (length bytes)
+read (number_field kind rule next) bytes = number_of kind bytes >>= λ x. if rule x.0 then read (next x.0) x.1
+    else Err (length bytes)
+read (text_field len rule next) bytes = text_of len bytes >>= λ x. if rule x.0 then read (next x.0) x.1
+    else Err (length bytes)
 
 -- these fields, and then those of what was read
 unfoldable pub followed_by : {A B : Type 0} → Format A → (A → Format B) → Format B
@@ -112,7 +119,8 @@ pub record Repeats (S A B : Type 0) : Type 0 where
 -- so many entries, and nothing behind them
 unfoldable pub repeated : {S A B : Type 0} → Repeats S A B → ℕ → S → List A → Format B
 repeated table zero state seen = end_field (ends (table.out seen state))
-repeated table (suc count) state seen = followed_by (table.entry state) (λ x. repeated table count (table.step state x) (seen ++ x ∷ []))
+repeated table (suc count) state seen =
+    followed_by (table.entry state) (λ x. repeated table count (table.step state x) (seen ++ x ∷ []))
 
 -- the bytes of entries, by those of one
 unfoldable pub entries_bytes : {S A B : Type 0} → Repeats S A B → (S → A → List ℕ) → S → List A → List ℕ

@@ -11,7 +11,8 @@ has list at = list_any (nat_eq at) list
 -- the indices of the lists that have the location, the first of the lists having this index
 abbrev pub holders_from : ℕ → List (List ℕ) → ℕ → List ℕ
 holders_from index [] at = []
-holders_from index (list ∷ lists) at = if has list at then index ∷ holders_from (index + 1) lists at else holders_from (index + 1) lists at
+holders_from index (list ∷ lists) at = if has list at then index ∷ holders_from (index + 1) lists at
+    else holders_from (index + 1) lists at
 
 abbrev pub held_by : List ℕ → Held
 held_by [] = Never
@@ -32,4 +33,5 @@ with_list index Often = Often
 pub record IsMarked (places list : List ℕ) (index : ℕ) (old new : List Held) : Type 0 where
   pub long : length new ≡ length old
   pub marked : (i : ℕ) (d : Held) → i < length places
-      → slice_index_or new i d ≡ (if has list (slice_index places i) then with_list index (slice_index_or old i d) else slice_index_or old i d)
+      → slice_index_or new i d ≡ (if has list (slice_index places i) then with_list index (slice_index_or old i d)
+      else slice_index_or old i d)

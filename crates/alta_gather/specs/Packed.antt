@@ -31,5 +31,6 @@ code_again code = ⊎_elim
     some_again : eqb code 0 ≡ false → code_of (some code) ≡ code
     some_again above = ⊎_elim
         (λ is. ap code_of (cond-true (eqb code often) Often (Once (code - 1)) is) ∙ sym (eqb-true code often is))
-        (λ no. ap code_of (cond-false (eqb code often) Often (Once (code - 1)) no) ∙ omega (arith, eqb-false code 0 above))
+        (λ no. ap code_of (cond-false (eqb code often) Often (Once (code - 1)) no)
+        ∙ omega (arith, eqb-false code 0 above))
         (cases_Bool (eqb code often))

@@ -23,7 +23,8 @@ abbrev pub AreRuns : ℕ → ℕ → List ℕ → List Run → Type 0
 AreRuns low before [] [] = Unit {0}
 AreRuns low before [] (run ∷ runs) = ⊥
 AreRuns low before (last ∷ lasts) [] = ⊥
-AreRuns low before (last ∷ lasts) (run ∷ runs) = IsRun low before last run × AreRuns last (before + (last + 1 - run.first)) lasts runs
+AreRuns low before (last ∷ lasts) (run ∷ runs) = IsRun low before last run
+    × AreRuns last (before + (last + 1 - run.first)) lasts runs
 
 -- the last place, or else a lower one
 abbrev pub last_above : ℕ → List ℕ → ℕ

@@ -73,7 +73,8 @@ fn note(
     ensures within { result ≤ length lasts.now }
     ensures passed { (k : ℕ) → k < result → slice_index lasts.now k < at }
     ensures noted { (i : ℕ) (d : Held) → i < length (places_in lasts.now runs.now)
-        → slice_index_or held.new i d ≡ (if slice_index (places_in lasts.now runs.now) i == at then with_list list (slice_index_or held.old i d) else slice_index_or held.old i d) }
+        → slice_index_or held.new i d ≡ (if slice_index (places_in lasts.now runs.now) i == at then with_list list
+        (slice_index_or held.old i d) else slice_index_or held.old i d) }
 {
     let at_run = index_from(lasts, from, at);
     if at_run == lasts.len() {

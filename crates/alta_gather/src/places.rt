@@ -36,7 +36,8 @@ impl Model for Places {
 
     ghost view = { λ p. places_in p.lasts.items p.runs.items };
 
-    ghost invariant = { λ p. AreRuns 0 0 p.lasts.items p.runs.items × (p.count ≡ length (places_in p.lasts.items p.runs.items)) };
+    ghost invariant = { λ p. AreRuns 0 0 p.lasts.items p.runs.items
+        × (p.count ≡ length (places_in p.lasts.items p.runs.items)) };
 }
 
 impl Places {
@@ -62,7 +63,8 @@ impl Places {
     /// Fails for want of memory alone; then these are dropped.
     pub fn with(self, first: Loc, end: Loc) -> Result<Places, AllocError>
         requires { end ≤ TOP }
-        ensures { IfOk result (λ places. 1 ≤ first → All (λ p. p < first) self → places ≡ self ++ range_with_len first (end - first)) }
+        ensures { IfOk result (λ places. 1 ≤ first → All (λ p. p < first) self
+            → places ≡ self ++ range_with_len first (end - first)) }
     {
         let mut places = self;
         let first = first.max(above(&places.lasts));

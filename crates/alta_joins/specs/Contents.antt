@@ -67,4 +67,5 @@ abbrev pub AreSegmentsOn : List ℕ → List Tables → List Content → Type 0
 AreSegmentsOn image [] [] = Unit {0}
 AreSegmentsOn image [] (content ∷ contents) = ⊥
 AreSegmentsOn image (level ∷ levels) [] = ⊥
-AreSegmentsOn image (level ∷ levels) (content ∷ contents) = IsSegmentOn image level content × AreSegmentsOn image levels contents
+AreSegmentsOn image (level ∷ levels) (content ∷ contents) = IsSegmentOn image level content
+    × AreSegmentsOn image levels contents

@@ -15,10 +15,12 @@ IsDamageOn image level place = IsSegmentFault (bytes_at (extent_of level) image)
 -- the first damage of the first level that has one: each level before it is the segment of a content
 abbrev pub IsFirstDamage : List ℕ → List Tables → ℕ → Type 0
 IsFirstDamage image [] place = ⊥
-IsFirstDamage image (level ∷ levels) place = IsDamageOn image level place ⊎ (((content : Content) × IsSegmentOn image level content) × IsFirstDamage image levels place)
+IsFirstDamage image (level ∷ levels) place = IsDamageOn image level place
+    ⊎ (((content : Content) × IsSegmentOn image level content) × IsFirstDamage image levels place)
 
 -- Unless the disk failed or memory ran out, the call answered the contents of these levels where each has one, and else the first damage.
-pub record Tells {X : Type 0} (view : X → List Content) (image : List ℕ) (levels : List Tables) (result : Result X LoadFault) : Type 0 where
+pub record Tells {X : Type 0} (view : X → List Content) (image : List ℕ) (levels : List Tables)
+    (result : Result X LoadFault) : Type 0 where
   pub segments : IfOk result (λ x. AreSegmentsOn image levels (view x))
   pub only : (contents : List Content) → AreSegmentsOn image levels contents → IsFound view result contents
   pub first : IfDamaged result (IsFirstDamage image levels)

@@ -46,8 +46,10 @@ pub record IsJoining (levels : List Tables) (gone : List ℕ) (merging : Merging
   pub dead : DeadAreGone job.dead gone (job.older.documents ++ job.newer.documents)
 
 -- its contents are those of the segments on an image
-abbrev pub AreJoinedOn : (image : List ℕ) {levels : List Tables} {gone : List ℕ} {merging : Merging} → IsJoining levels gone merging → Type 0
-AreJoinedOn image joining = AreSegmentsOn image (joining.older ∷ joining.newer ∷ []) (joining.job.older ∷ joining.job.newer ∷ [])
+abbrev pub AreJoinedOn : (image : List ℕ) {levels : List Tables} {gone : List ℕ} {merging : Merging}
+    → IsJoining levels gone merging → Type 0
+AreJoinedOn image joining = AreSegmentsOn image (joining.older ∷ joining.newer ∷ [])
+    (joining.job.older ∷ joining.job.newer ∷ [])
 
 -- it begins: no term is merged, and what is gone is dead
 abbrev pub IsBegun : {levels : List Tables} {gone : List ℕ} {merging : Merging} → IsJoining levels gone merging → Type 0

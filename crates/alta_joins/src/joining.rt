@@ -32,7 +32,8 @@ pub fn join_levels(
 pub fn begin_job(alloc: Global, contents: Vec<Content>, dead: &[Loc]) -> Result<Job, AllocError>
     requires { MayJoin contents.items }
     ensures whole { IfOk result (λ job. job.whole ≡ joined_in contents.items dead.now) }
-    ensures merging { (older newer : Content) → contents.items ≡ older ∷ newer ∷ [] → IfOk result (λ job. IsMerging job (begun_job older newer dead.now)) }
+    ensures merging { (older newer : Content) → contents.items ≡ older ∷ newer ∷ []
+        → IfOk result (λ job. IsMerging job (begun_job older newer dead.now)) }
 {
     Job::over(alloc, contents, dead)
 }
@@ -42,10 +43,12 @@ pub fn begin_job(alloc: Global, contents: Vec<Content>, dead: &[Loc]) -> Result<
 pub fn step_job(job: &mut Job, n: u64) -> Result<bool, AllocError>
     ensures whole { job.new.whole ≡ job.old.whole }
     ensures moved { (j : work.Job) → IsMerging job.old j → OnOk result (IsMerging job.new (moved_by j n)) }
-    ensures done { (j : work.Job) → IsMerging job.old j → IfOk result (λ done. done ≡ nat_le (length (terms_in (j.older ∷ j.newer ∷ []))) (j.merged + n)) }
+    ensures done { (j : work.Job) → IsMerging job.old j
+        → IfOk result (λ done. done ≡ nat_le (length (terms_in (j.older ∷ j.newer ∷ []))) (j.merged + n)) }
     ensures ended { IfOk result (λ done. IsTrue done → job.new.left ≡ []) }
     ensures wanting { (j : work.Job) → IsMerging job.old j
-        → OnErr result ((k : ℕ) × (k < n) × (j.merged + k < length (terms_in (j.older ∷ j.newer ∷ []))) × IsMerging job.new (moved_by j k)) }
+        → OnErr result ((k : ℕ) × (k < n) × (j.merged + k < length (terms_in (j.older ∷ j.newer ∷ [])))
+        × IsMerging job.new (moved_by j k)) }
 {
     job.step(n)
 }
@@ -55,7 +58,8 @@ pub fn run_job(job: &mut Job) -> Result<(), AllocError>
     ensures whole { job.new.whole ≡ job.old.whole }
     ensures ended { OnOk result (job.new.left ≡ []) }
     ensures wanting { (j : work.Job) → IsMerging job.old j
-        → OnErr result ((k : ℕ) × (j.merged + k < length (terms_in (j.older ∷ j.newer ∷ []))) × IsMerging job.new (moved_by j k)) }
+        → OnErr result ((k : ℕ) × (j.merged + k < length (terms_in (j.older ∷ j.newer ∷ [])))
+        × IsMerging job.new (moved_by j k)) }
 {
     loop {
         let done = job.step(u64::MAX)?;

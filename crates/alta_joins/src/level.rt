@@ -39,10 +39,12 @@ pub fn read_level<D: Disk>(
     requires { D.tells → StandsOn (D.state disk.old).content level.now }
     // What is read is the content of the segment that stands there, and if there is one it is read.
     ensures segment { D.tells → IfOk result (IsSegmentOn (D.state disk.old).content level.now) }
-    ensures only { D.tells → (content : Content) → IsSegmentOn (D.state disk.old).content level.now content → IsFound (λ x. x) result content }
+    ensures only { D.tells → (content : Content) → IsSegmentOn (D.state disk.old).content level.now content
+        → IsFound (λ x. x) result content }
     // The damage is the first, and if there is one that is the answer.
     ensures first { D.tells → IfDamaged result (IsDamageOn (D.state disk.old).content level.now) }
-    ensures damaged { D.tells → (place : ℕ) → IsDamageOn (D.state disk.old).content level.now place → IsDamaged result place }
+    ensures damaged { D.tells → (place : ℕ) → IsDamageOn (D.state disk.old).content level.now place
+        → IsDamaged result place }
     // It is one of a stream or a summary.
     ensures broken { D.tells → IfDamaged result (IsBrokenIn level.now (D.state disk.old).content) }
     // Whatever the disk tells, what is read keeps the rules of a content, and has these tables.
@@ -88,7 +90,8 @@ fn content_in(
     requires below { place + length bytes.items < 2 ^ 64 }
     ensures kept { IfOk result (IsContentOf level.now) }
     ensures segment { IfOk result (IsSegment (tables_bytes level.now.documents level.now.terms ++ bytes.items)) }
-    ensures first { IfDamaged result (IsFaultInLists level.now.documents level.now.terms bytes.items (data_place level.now)) }
+    ensures first { IfDamaged result (IsFaultInLists level.now.documents level.now.terms bytes.items
+        (data_place level.now)) }
     ensures lean { result ≢ Err DiskFault }
 {
     let lists = match lists_in(alloc, level, bytes, place) {
@@ -145,11 +148,16 @@ fn put_row(
     bytes: &[u8],
     place: u64,
 ) -> Result<(), LoadFault>
-    requires whole { (row_at cursor.now.tables cursor.now.row).stream + (row_at cursor.now.tables cursor.now.row).summary ≤ length bytes.now }
+    requires whole { (row_at cursor.now.tables cursor.now.row).stream
+        + (row_at cursor.now.tables cursor.now.row).summary ≤ length bytes.now }
     requires below { place + length bytes.now < 2 ^ 64 }
-    ensures put { IfOk result (λ x. lists.new ≡ lists.old ++ (list_at (row_at cursor.now.tables cursor.now.row) bytes.now) ∷ []) }
-    ensures found { IfOk result (λ x. IsListOf level.now.documents (stored_at (row_at cursor.now.tables cursor.now.row) bytes.now place) (list_at (row_at cursor.now.tables cursor.now.row) bytes.now).locations) }
-    ensures first { IfDamaged result (IsListFault level.now.documents (stored_at (row_at cursor.now.tables cursor.now.row) bytes.now place)) }
+    ensures put { IfOk result (λ x. lists.new
+        ≡ lists.old ++ (list_at (row_at cursor.now.tables cursor.now.row) bytes.now) ∷ []) }
+    ensures found { IfOk result (λ x. IsListOf level.now.documents
+        (stored_at (row_at cursor.now.tables cursor.now.row) bytes.now place)
+        (list_at (row_at cursor.now.tables cursor.now.row) bytes.now).locations) }
+    ensures first { IfDamaged result (IsListFault level.now.documents
+        (stored_at (row_at cursor.now.tables cursor.now.row) bytes.now place)) }
     ensures lean { result ≢ Err DiskFault }
 {
     let list = stored(cursor, bytes, place);
@@ -165,7 +173,8 @@ fn put_row(
 
 // The list of the row at which a cursor stands, as it stands at the front of these bytes.
 fn stored<'a>(cursor: &'a TermCursor<'_>, bytes: &'a [u8], place: u64) -> StoredList<'a>
-    requires whole { (row_at cursor.now.tables cursor.now.row).stream + (row_at cursor.now.tables cursor.now.row).summary ≤ length bytes.now }
+    requires whole { (row_at cursor.now.tables cursor.now.row).stream
+        + (row_at cursor.now.tables cursor.now.row).summary ≤ length bytes.now }
     requires below { place + length bytes.now < 2 ^ 64 }
     ensures { stored_of result ≡ stored_at (row_at cursor.now.tables cursor.now.row) bytes.now place }
 {

@@ -41,10 +41,12 @@ pub fn begin_oldest<D: Disk>(
     requires stands { D.tells → All (StandsOn (D.state disk.old).content) levels.now }
     requires documents { AreDocuments (table_rows levels.now) }
     // Whatever the disk tells, it is a join of contents with these tables; and they are those of the segments that stand there.
-    ensures begun { IfOk result (λ job. (joining : IsJoining levels.now gone.now job) × IsBegun joining × (D.tells → AreJoinedOn (D.state disk.old).content joining)) }
+    ensures begun { IfOk result (λ job. (joining : IsJoining levels.now gone.now job) × IsBegun joining
+        × (D.tells → AreJoinedOn (D.state disk.old).content joining)) }
     ensures damage { D.tells → FindsDamage (D.state disk.old).content (take 2 levels.now) result }
     ensures broken { D.tells → IfDamaged result (IsBrokenAmong (take 2 levels.now) (D.state disk.old).content) }
-    ensures retrieves { Retrieves D.tells (sum_by data_size (take 2 levels.now)) (D.state disk.old) (D.state disk.new) result }
+    ensures retrieves { Retrieves D.tells (sum_by data_size (take 2 levels.now)) (D.state disk.old)
+        (D.state disk.new) result }
 {
     let contents = read_levels(alloc, disk, &levels[..2])?;
     Ok(begin_job(alloc, contents, gone)?)
@@ -67,10 +69,13 @@ pub fn merge_levels<D: Disk>(
     requires documents { AreDocuments (table_rows levels.now) }
     requires newest { (added : List Added) × IsNewest levels.now gone.now added newest }
     // It is the join of all levels and of all documents that were added, without what is gone.
-    ensures merged { (added : List Added) → IsNewest levels.now gone.now added newest → IfOk result (λ content. (contents : List Content) × AreContentsOf levels.now contents
-        × (D.tells → AreSegmentsOn (D.state disk.old).content levels.now contents) × (content ≡ joined_in (contents ++ content_of added ∷ []) gone.now)) }
+    ensures merged { (added : List Added) → IsNewest levels.now gone.now added newest
+        → IfOk result (λ content. (contents : List Content) × AreContentsOf levels.now contents
+        × (D.tells → AreSegmentsOn (D.state disk.old).content levels.now contents)
+        × (content ≡ joined_in (contents ++ content_of added ∷ []) gone.now)) }
     ensures part { IfOk result IsPart }
-    ensures rows { IfOk result (λ content. content.documents ≡ live_rows gone.now (table_rows levels.now ++ newest.documents)) }
+    ensures rows { IfOk result (λ content. content.documents
+        ≡ live_rows gone.now (table_rows levels.now ++ newest.documents)) }
     ensures damage { D.tells → FindsDamage (D.state disk.old).content levels.now result }
     ensures broken { D.tells → IfDamaged result (IsBrokenAmong levels.now (D.state disk.old).content) }
     ensures retrieves { Retrieves D.tells (sum_by data_size levels.now) (D.state disk.old) (D.state disk.new) result }

@@ -33,7 +33,8 @@ payload_of (Replace number name title body) = 3 ∷ (eight_bytes number ++ texts
 -- title has no tab, and together they are not too long.
 abbrev pub KeepTexts : List ℕ → List ℕ → List ℕ → Type 0
 KeepTexts name title body =
-    IsName name × Lacks 9 title × Lacks 10 title × Lacks 10 body × (length name + length title + length body ≤ TEXTS_BYTES)
+    IsName name × Lacks 9 title × Lacks 10 title × Lacks 10 body
+    × (length name + length title + length body ≤ TEXTS_BYTES)
 
 -- the rules on an entry that its type does not keep
 abbrev pub KeepsRules : Entry → Type 0

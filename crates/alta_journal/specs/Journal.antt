@@ -27,14 +27,16 @@ pub record EndsAt (version start place : ℕ) (entries : List Entry) (image : Li
 -- The half that starts at `start` has the entries that it had, and behind them the new one.
 abbrev pub Appended : ℕ → ℕ → ℕ → Entry → List ℕ → List ℕ → Type 0
 Appended version start place entry old new =
-    (entries : List Entry) → EndsAt version start place entries old → EndsAt version start (place + length (record_of entry)) (entries ++ entry ∷ []) new
+    (entries : List Entry) → EndsAt version start place entries old
+    → EndsAt version start (place + length (record_of entry)) (entries ++ entry ∷ []) new
 
 -- What an append may leave at any moment: the entries that were there, with the new one or without, and each byte outside
 -- of what the half has from the gate on.
 pub record Appends (version start place : ℕ) (entry : Entry) (old new : List ℕ) : Type 0 where
   pub outside : Torn place (1 + left_behind start place) old new
   pub entries : (entries : List Entry) → EndsAt version start place entries old
-      → EndsAt version start place entries new ⊎ EndsAt version start (place + length (record_of entry)) (entries ++ entry ∷ []) new
+      → EndsAt version start place entries new
+      ⊎ EndsAt version start (place + length (record_of entry)) (entries ++ entry ∷ []) new
 
 -- these bytes stand at this place
 abbrev pub HasBytes : ℕ → List ℕ → List ℕ → Type 0
@@ -64,13 +66,15 @@ LeavesNoRoom at slot = length slot ≤ at + 5 + of_four (part (at + 1) 4 slot)
 
 -- No record of a sound entry stands at `at`.
 abbrev pub HasNoRecord : ℕ → ℕ → List ℕ → Type 0
-HasNoRecord version at slot = (entry : Entry) → MayBeRecorded version entry → part at (length (record_of entry)) slot ≢ record_of entry
+HasNoRecord version at slot = (entry : Entry) → MayBeRecorded version entry
+    → part at (length (record_of entry)) slot ≢ record_of entry
 
 -- The record whose gate stands at `at` breaks a rule at this place: at its length, where that leaves no room, and else
 -- at its payload.
 abbrev pub BreaksAt : ℕ → ℕ → ℕ → List ℕ → Type 0
 BreaksAt version at place slot =
-    (LeavesNoRoom at slot × (place ≡ at + 1)) ⊎ ((LeavesNoRoom at slot → ⊥) × HasNoRecord version at slot × (place ≡ at + 5))
+    (LeavesNoRoom at slot × (place ≡ at + 1))
+    ⊎ ((LeavesNoRoom at slot → ⊥) × HasNoRecord version at slot × (place ≡ at + 5))
 
 -- Behind sound records stands an open gate, and the record there breaks a rule at this place of the half.
 pub record HasBrokenRecord (version place : ℕ) (slot : List ℕ) : Type 0 where

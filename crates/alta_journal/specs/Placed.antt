@@ -8,12 +8,15 @@ use Rattle.alta_journal.specs.declared.placed.Placed.{Placed}
 -- these entries, each with the place of its record's gate, the first at this place
 abbrev pub placed : ℕ → List Entry → List Placed
 placed place [] = []
-placed place (entry ∷ entries) = record { place = place; entry = entry } ∷ placed (place + length (record_of entry)) entries
+placed place (entry ∷ entries) = record { place = place; entry = entry }
+    ∷ placed (place + length (record_of entry)) entries
 
 -- These are entries with their places, and the half that starts at `start` has them, and at `tail` its first closed gate.
 abbrev pub IsReplay : ℕ → ℕ → List Placed → ℕ → List ℕ → Type 0
-IsReplay version start found tail image = (entries : List Entry) × (found ≡ placed start entries) × EndsAt version start tail entries image
+IsReplay version start found tail image = (entries : List Entry) × (found ≡ placed start entries)
+    × EndsAt version start tail entries image
 
 -- These are the entries, with their places, whose records take the first bytes of a half, up to `at`.
 abbrev pub IsReading : ℕ → ℕ → List Placed → ℕ → List ℕ → Type 0
-IsReading version start found at slot = (entries : List Entry) × (found ≡ placed start entries) × Begins version entries at slot
+IsReading version start found at slot = (entries : List Entry) × (found ≡ placed start entries)
+    × Begins version entries at slot

@@ -48,7 +48,8 @@ replace_in bytes = cut 8 bytes >>= λ number. texts_in number.1 >>= λ t. Some (
 unfoldable pub entry_in : List ℕ → Option Entry
 entry_in [] = None
 entry_in (kind ∷ bytes) =
-    if kind == 1 then add_in bytes else (if kind == 2 then delete_in bytes else (if kind == 3 then replace_in bytes else None))
+    if kind == 1 then add_in bytes else (if kind == 2 then delete_in bytes
+    else (if kind == 3 then replace_in bytes else None))
 
 abbrev pub or_none : Option Entry → Entry
 or_none None = Delete 0

@@ -50,8 +50,12 @@ pub fn append<D: Disk>(disk: &mut D, tail: &mut Tail, ready: &Ready) -> Result<(
     requires closed { Stands D.tells (D.state disk.old) (HasClosedGate tail.old.place) }
     requires limit { HEAD_BYTES ≤ (D.state disk.old).limit }
 
-    ensures appended { (version : ℕ) → MayBeRecorded version ready.now.entry → D.tells → OnOk result (Appended version (half_start tail.old.slot) tail.old.place ready.now.entry (D.state disk.old).content (D.state disk.new).content) }
-    ensures written { D.tells → OnOk result (Holds (D.state disk.old).content tail.old.place (record_of ready.now.entry ++ GATE_CLOSED ∷ []) (D.state disk.new).content) }
+    ensures appended { (version : ℕ) → MayBeRecorded version ready.now.entry → D.tells
+        → OnOk result (Appended version (half_start tail.old.slot) tail.old.place ready.now.entry
+        (D.state disk.old).content (D.state disk.new).content) }
+    ensures written { D.tells → OnOk result
+        (Holds (D.state disk.old).content tail.old.place (record_of ready.now.entry ++ GATE_CLOSED ∷ [])
+        (D.state disk.new).content) }
     ensures closed { OnOk result (Stands D.tells (D.state disk.new) (HasClosedGate tail.new.place)) }
     ensures durable { OnOk result (Only (D.state disk.new).content (D.state disk.new).images) }
     ensures tail { OnOk result (tail.new.place ≡ tail.old.place + length (record_of ready.now.entry)) }
@@ -59,12 +63,17 @@ pub fn append<D: Disk>(disk: &mut D, tail: &mut Tail, ready: &Ready) -> Result<(
     ensures slot { tail.new.slot ≡ tail.old.slot }
 
     // At each moment of the call.
-    ensures images { (version : ℕ) → MayBeRecorded version ready.now.entry → Passes (Appends version (half_start tail.old.slot) tail.old.place ready.now.entry) (D.state disk.old) (D.state disk.new) }
-    ensures outside { Passes (Torn tail.old.place (1 + length (body_of ready.now.entry))) (D.state disk.old) (D.state disk.new) }
+    ensures images { (version : ℕ) → MayBeRecorded version ready.now.entry
+        → Passes (Appends version (half_start tail.old.slot) tail.old.place ready.now.entry) (D.state disk.old)
+        (D.state disk.new) }
+    ensures outside { Passes (Torn tail.old.place (1 + length (body_of ready.now.entry))) (D.state disk.old)
+        (D.state disk.new) }
 
     ensures full { left_behind (half_start tail.old.slot) tail.old.place < length (body_of ready.now.entry)
-        → (result ≡ Err (JournalFault.Full (length (body_of ready.now.entry)) (left_behind (half_start tail.old.slot) tail.old.place))) × (disk.new ≡ disk.old) }
-    ensures room { length (body_of ready.now.entry) ≤ left_behind (half_start tail.old.slot) tail.old.place → IfErr result (λ e. e ≡ DiskFault) }
+        → (result ≡ Err (JournalFault.Full (length (body_of ready.now.entry))
+        (left_behind (half_start tail.old.slot) tail.old.place))) × (disk.new ≡ disk.old) }
+    ensures room { length (body_of ready.now.entry) ≤ left_behind (half_start tail.old.slot) tail.old.place
+        → IfErr result (λ e. e ≡ DiskFault) }
     ensures cause { result ≡ Err JournalFault.Disk → Rose (D.state disk.old).faults (D.state disk.new).faults }
     ensures costs { Costs 0 (D.state disk.old) (D.state disk.new) }
 {
@@ -95,8 +104,12 @@ pub fn append_ahead<D: Disk>(
     requires stands { Stands D.tells (D.state disk.old) (StandsAhead tail.old.place ahead) }
     requires limit { HEAD_BYTES ≤ (D.state disk.old).limit }
 
-    ensures appended { (version : ℕ) → MayBeRecorded version ready.now.entry → D.tells → OnOk result (Appended version (half_start tail.old.slot) tail.old.place ready.now.entry (D.state disk.old).content (D.state disk.new).content) }
-    ensures written { D.tells → IfOk result (λ left. Holds (D.state disk.old).content tail.old.place (GATE_OPEN ∷ (body_of ready.now.entry ++ bytes_ahead left)) (D.state disk.new).content) }
+    ensures appended { (version : ℕ) → MayBeRecorded version ready.now.entry → D.tells
+        → OnOk result (Appended version (half_start tail.old.slot) tail.old.place ready.now.entry
+        (D.state disk.old).content (D.state disk.new).content) }
+    ensures written { D.tells → IfOk result
+        (λ left. Holds (D.state disk.old).content tail.old.place (GATE_OPEN
+        ∷ (body_of ready.now.entry ++ bytes_ahead left)) (D.state disk.new).content) }
     ensures stands { IfOk result (λ left. Stands D.tells (D.state disk.new) (StandsAhead tail.new.place left)) }
     ensures left { IfOk result (λ left. (left ≡ None) ⊎ (left ≡ next)) }
     ensures closed { OnOk result (Stands D.tells (D.state disk.new) (HasClosedGate tail.new.place)) }
@@ -106,12 +119,17 @@ pub fn append_ahead<D: Disk>(
     ensures slot { tail.new.slot ≡ tail.old.slot }
 
     // At each moment of the call.
-    ensures images { (version : ℕ) → MayBeRecorded version ready.now.entry → Passes (Appends version (half_start tail.old.slot) tail.old.place ready.now.entry) (D.state disk.old) (D.state disk.new) }
-    ensures outside { Passes (Torn tail.old.place (1 + (length (body_of ready.now.entry) + length (bytes_ahead next)))) (D.state disk.old) (D.state disk.new) }
+    ensures images { (version : ℕ) → MayBeRecorded version ready.now.entry
+        → Passes (Appends version (half_start tail.old.slot) tail.old.place ready.now.entry) (D.state disk.old)
+        (D.state disk.new) }
+    ensures outside { Passes (Torn tail.old.place (1 + (length (body_of ready.now.entry) + length (bytes_ahead next))))
+        (D.state disk.old) (D.state disk.new) }
 
     ensures full { left_behind (half_start tail.old.slot) tail.old.place < length (body_of ready.now.entry)
-        → (result ≡ Err (JournalFault.Full (length (body_of ready.now.entry)) (left_behind (half_start tail.old.slot) tail.old.place))) × (disk.new ≡ disk.old) }
-    ensures room { length (body_of ready.now.entry) ≤ left_behind (half_start tail.old.slot) tail.old.place → IfErr result (λ e. e ≡ DiskFault) }
+        → (result ≡ Err (JournalFault.Full (length (body_of ready.now.entry))
+        (left_behind (half_start tail.old.slot) tail.old.place))) × (disk.new ≡ disk.old) }
+    ensures room { length (body_of ready.now.entry) ≤ left_behind (half_start tail.old.slot) tail.old.place
+        → IfErr result (λ e. e ≡ DiskFault) }
     ensures cause { result ≡ Err JournalFault.Disk → Rose (D.state disk.old).faults (D.state disk.new).faults }
     ensures costs { Costs 0 (D.state disk.old) (D.state disk.new) }
 {
@@ -157,10 +175,13 @@ fn put_bodies<D: Disk>(
     requires fits { at + length bytes.now + length (bytes_ahead next.now) ≤ (D.state disk.old).limit }
     requires number { at + length bytes.now < 2 ^ 64 }
     requires stands { Stands D.tells (D.state disk.old) (HasBytes at (bytes_ahead ahead)) }
-    ensures written { D.tells → OnOk result (Holds (D.state disk.old).content at (bytes.now ++ bytes_ahead next.now) (D.state disk.new).content) }
+    ensures written { D.tells → OnOk result
+        (Holds (D.state disk.old).content at (bytes.now ++ bytes_ahead next.now) (D.state disk.new).content) }
     ensures stands { OnOk result (Stands D.tells (D.state disk.new) (HasBytes at bytes.now)) }
-    ensures next { D.tells → OnOk result (HasBytes (at + length bytes.now) (bytes_ahead next.now) (D.state disk.new).content) }
-    ensures puts { Puts at (length bytes.now + length (bytes_ahead next.now)) (D.state disk.old) (D.state disk.new) result }
+    ensures next { D.tells → OnOk result (HasBytes (at + length bytes.now) (bytes_ahead next.now)
+        (D.state disk.new).content) }
+    ensures puts { Puts at (length bytes.now + length (bytes_ahead next.now)) (D.state disk.old)
+        (D.state disk.new) result }
 {
     put_body(disk, at, bytes, ahead)?;
     put_next(disk, at + bytes.len() as u64, next)
@@ -200,7 +221,8 @@ fn is_of(ahead: &Option<Ready>, bytes: &[u8]) -> bool
 fn put_next<D: Disk>(disk: &mut D, at: u64, next: &Option<Ready>) -> Result<(), Failed>
     requires inside { D.tells → at ≤ length (D.state disk.old).content }
     requires fits { at + length (bytes_ahead next.now) ≤ (D.state disk.old).limit }
-    ensures written { D.tells → OnOk result (Holds (D.state disk.old).content at (bytes_ahead next.now) (D.state disk.new).content) }
+    ensures written { D.tells → OnOk result
+        (Holds (D.state disk.old).content at (bytes_ahead next.now) (D.state disk.new).content) }
     ensures puts { Puts at (length (bytes_ahead next.now)) (D.state disk.old) (D.state disk.new) result }
 {
     match next {
@@ -219,8 +241,10 @@ fn put_next<D: Disk>(disk: &mut D, at: u64, next: &Option<Ready>) -> Result<(), 
 pub fn close_half<D: Disk>(disk: &mut D, slot: Slot) -> Result<Tail, Failed>
     requires size { D.tells → HEAD_BYTES ≤ length (D.state disk.old).content }
     requires limit { HEAD_BYTES ≤ (D.state disk.old).limit }
-    ensures written { D.tells → OnOk result (Holds (D.state disk.old).content (half_start slot) (GATE_CLOSED ∷ []) (D.state disk.new).content) }
-    ensures empty { (version : ℕ) → D.tells → OnOk result (EndsAt version (half_start slot) (half_start slot) [] (D.state disk.new).content) }
+    ensures written { D.tells → OnOk result
+        (Holds (D.state disk.old).content (half_start slot) (GATE_CLOSED ∷ []) (D.state disk.new).content) }
+    ensures empty { (version : ℕ) → D.tells
+        → OnOk result (EndsAt version (half_start slot) (half_start slot) [] (D.state disk.new).content) }
     ensures closed { D.tells → OnOk result (HasClosedGate (half_start slot) (D.state disk.new).content) }
     ensures tail { IfOk result (λ tail. (tail.slot ≡ slot) × (tail.place ≡ half_start slot)) }
     ensures images { Passes (Torn (half_start slot) 1) (D.state disk.old) (D.state disk.new) }

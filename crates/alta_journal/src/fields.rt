@@ -86,7 +86,8 @@ fn replace_from(alloc: Global, fields: &[u8]) -> Result<Option<Entry>, AllocErro
 // A number of eight bytes, and what follows.
 #[tactic(auto, unfolding(crate::specs::Reading::cut, alta_layout::specs::Wide::of_eight))]
 fn split_number(bytes: &[u8]) -> Option<(u64, &[u8])>
-    ensures { MatchOption result (cut 8 bytes.now ≡ None) (λ x. (cut 8 bytes.now ≡ Some (take 8 bytes.now, x.1.now)) × (x.0 ≡ of_eight (take 8 bytes.now)) × (x.0 < 2 ^ 64)) }
+    ensures { MatchOption result (cut 8 bytes.now ≡ None) (λ x. (cut 8 bytes.now ≡ Some (take 8 bytes.now, x.1.now))
+        × (x.0 ≡ of_eight (take 8 bytes.now)) × (x.0 < 2 ^ 64)) }
 {
     let [a, b, c, d, e, f, g, h, rest @ ..] = bytes else {
         return None;
@@ -148,7 +149,8 @@ fn name_text(bytes: &[u8]) -> Option<&str>
 
 // The bytes as text, where they are UTF-8 without a newline.
 fn line(bytes: &[u8]) -> Option<&str>
-    ensures { MatchOption result (IsUtf8 bytes.now × Lacks 10 bytes.now → ⊥) (λ s. (s.now ≡ bytes.now) × IsUtf8 bytes.now × Lacks 10 bytes.now) }
+    ensures { MatchOption result (IsUtf8 bytes.now × Lacks 10 bytes.now
+        → ⊥) (λ s. (s.now ≡ bytes.now) × IsUtf8 bytes.now × Lacks 10 bytes.now) }
 {
     if !lacks(bytes, b'\n') {
         return None;
@@ -165,7 +167,8 @@ pub(crate) fn lacks(bytes: &[u8], value: u8) -> bool
 // A name, a title and a body, and nothing behind them.
 #[tactic(auto, unfolding(crate::specs::Reading::texts_in))]
 fn fields_of(bytes: &[u8]) -> Option<(&[u8], &[u8], &[u8])>
-    ensures { MatchOption result (texts_in bytes.now ≡ None) (λ x. texts_in bytes.now ≡ Some (x.0.now, x.1.now, x.2.now)) }
+    ensures { MatchOption result (texts_in bytes.now ≡ None) (λ x. texts_in bytes.now
+        ≡ Some (x.0.now, x.1.now, x.2.now)) }
 {
     let (name, rest) = split_name(bytes)?;
     let (title, rest) = split_text(rest)?;

@@ -22,7 +22,8 @@ impl Model for Ready {
 
     ghost view = { λ r. record { entry = entry_of_body r.bytes.items; bytes = r.bytes.items } };
 
-    ghost invariant = { λ r. MayBeRecorded 2 (entry_of_body r.bytes.items) × (r.bytes.items ≡ body_of (entry_of_body r.bytes.items)) };
+    ghost invariant = { λ r. MayBeRecorded 2 (entry_of_body r.bytes.items)
+        × (r.bytes.items ≡ body_of (entry_of_body r.bytes.items)) };
 }
 
 impl Ready {

@@ -37,13 +37,16 @@ pub fn replay<D: Disk>(
     requires size { D.tells → HEAD_BYTES ≤ length (D.state disk.old).content }
     requires version { (1 ≤ version) × (version ≤ 2) }
 
-    ensures read { D.tells → IfOk result (λ r. IsReplay version (half_start slot) r.0.items r.1.place (D.state disk.old).content) }
+    ensures read { D.tells → IfOk result (λ r. IsReplay version (half_start slot) r.0.items r.1.place
+        (D.state disk.old).content) }
     ensures slot { IfOk result (λ r. r.1.slot ≡ slot) }
     ensures rules { IfOk result (λ r. All (λ p. MayBeRecorded version p.entry) r.0.items) }
-    ensures damaged { D.tells → IfErr result (λ e. (place : ℕ) → e ≡ LoadFault.Damaged place → HasBrokenHalf version (half_start slot) place (D.state disk.old).content) }
+    ensures damaged { D.tells → IfErr result (λ e. (place : ℕ) → e ≡ LoadFault.Damaged place
+        → HasBrokenHalf version (half_start slot) place (D.state disk.old).content) }
 
     // What the half says decides the answer, but for a fault of the disk and want of memory.
-    ensures sound { D.tells → (tail : ℕ) → (entries : List Entry) → EndsAt version (half_start slot) tail entries (D.state disk.old).content
+    ensures sound { D.tells → (tail : ℕ) → (entries : List Entry)
+        → EndsAt version (half_start slot) tail entries (D.state disk.old).content
         → MatchResult result (λ r. (r.0.items ≡ placed (half_start slot) entries) × (r.1.place ≡ tail)) IsNoDamage }
     ensures broken { D.tells → (place : ℕ) → HasBrokenHalf version (half_start slot) place (D.state disk.old).content
         → MatchResult result (λ _. ⊥) (λ e. (other : ℕ) → e ≡ LoadFault.Damaged other → other ≡ place) }
@@ -62,10 +65,13 @@ fn read_records(
     bytes: &[u8],
 ) -> Result<(Vec<Placed>, Tail), LoadFault>
     requires { length bytes.now ≡ HALF_BYTES }
-    ensures read { IfOk result (λ r. (half_start slot ≤ r.1.place) × IsReading version (half_start slot) r.0.items (r.1.place - half_start slot) bytes.now × HasClosedGate (r.1.place - half_start slot) bytes.now) }
+    ensures read { IfOk result (λ r. (half_start slot ≤ r.1.place)
+        × IsReading version (half_start slot) r.0.items (r.1.place - half_start slot) bytes.now
+        × HasClosedGate (r.1.place - half_start slot) bytes.now) }
     ensures slot { IfOk result (λ r. r.1.slot ≡ slot) }
     ensures rules { IfOk result (λ r. All (λ p. MayBeRecorded version p.entry) r.0.items) }
-    ensures damaged { IfErr result (λ e. (place : ℕ) → e ≡ LoadFault.Damaged place → (half_start slot ≤ place) × HasBrokenRecord version (place - half_start slot) bytes.now) }
+    ensures damaged { IfErr result (λ e. (place : ℕ) → e ≡ LoadFault.Damaged place
+        → (half_start slot ≤ place) × HasBrokenRecord version (place - half_start slot) bytes.now) }
     ensures disk { IfErr result (λ e. e ≢ DiskFault) }
 {
     let start = slot.half_start();
@@ -96,7 +102,9 @@ fn read_records(
 // The payload of the record that begins here, if the next gate is there too.
 #[tactic(auto, unfolding(crate::specs::Reading::of_four))]
 fn payload_of(bytes: &[u8]) -> Option<&[u8]>
-    ensures { MatchOption result (length bytes.now ≤ 5 + of_four (part 1 4 bytes.now)) (λ p. (p.now ≡ part 5 (of_four (part 1 4 bytes.now)) bytes.now) × (length p.now ≡ of_four (part 1 4 bytes.now)) × (5 + length p.now < length bytes.now)) }
+    ensures { MatchOption result (length bytes.now ≤ 5 + of_four (part 1 4 bytes.now))
+        (λ p. (p.now ≡ part 5 (of_four (part 1 4 bytes.now)) bytes.now) × (length p.now ≡ of_four (part 1 4 bytes.now))
+        × (5 + length p.now < length bytes.now)) }
 {
     let [_, a, b, c, d, rest @ ..] = bytes else {
         return None;

@@ -19,7 +19,8 @@ abbrev pub first_in : List ℕ → List ℕ → ℕ → ℕ
 first_in ends word end = first_from word (pred_of ends end + 1)
 
 abbrev pub is_followed : List ℕ → List ℕ → List ℕ → ℕ → Bool
-is_followed ends first second end = nat_lt (first_in ends first end) end && nat_le (first_from second (first_in ends first end + 1)) end
+is_followed ends first second end = nat_lt (first_in ends first end) end
+    && nat_le (first_from second (first_in ends first end + 1)) end
 
 -- the ends of the documents in which the first word stands before the second, in order
 unfoldable pub ends_followed : List ℕ → List ℕ → List ℕ → List ℕ

@@ -28,7 +28,8 @@ none_within low high [] = true
 none_within low high (w ∷ ws) = not (has_within low high w) && none_within low high ws
 
 abbrev pub is_answer : List ℕ → List (List ℕ) → List (List ℕ) → ℕ → Bool
-is_answer ends words negated end = each_within (pred_of ends end) end words && none_within (pred_of ends end) end negated
+is_answer ends words negated end = each_within (pred_of ends end) end words
+    && none_within (pred_of ends end) end negated
 
 -- the ends of the documents that have each word and none of the negated words, in order
 unfoldable pub ends_having : List ℕ → List (List ℕ) → List (List ℕ) → List ℕ

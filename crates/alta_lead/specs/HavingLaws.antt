@@ -14,7 +14,8 @@ pub element_within : (xs : List ℕ) (z : ℕ) → IsRising xs → Contains xs z
 element_within xs z r m =
     let (k, l, e) = element xs z m in (omega (arith, r.positive k l, e), omega (arith, r.below k l, e))
 
-pub having-rises : (ends : List ℕ) (words negated : List (List ℕ)) → IsRising ends → IsRising (ends_having ends words negated)
+pub having-rises : (ends : List ℕ) (words negated : List (List ℕ)) → IsRising ends
+    → IsRising (ends_having ends words negated)
 unfolding ends_having
 having-rises ends words negated r = filter-rises (is_answer ends words negated) ends r
 
@@ -25,7 +26,8 @@ true_le : (x y : ℕ) → x ≤ y → nat_le x y ≡ true
 true_le x y h = grind (arith, h)
 
 -- the first element above a place is at most a place, where one is
-pub first_within : (low high : ℕ) (xs : List ℕ) → low < high → high < TOP → first_from xs (low + 1) ≤ high → HasWithin low high xs
+pub first_within : (low high : ℕ) (xs : List ℕ) → low < high → high < TOP → first_from xs (low + 1) ≤ high
+    → HasWithin low high xs
 first_within low high xs l t h = (
   first_from xs (low + 1),
   ⊎_elim (λ m. m) (λ e. absurd (omega (arith, e, h))) (first_from-place xs (low + 1)),
@@ -36,7 +38,8 @@ first_within low high xs l t h = (
 pub within_first : (low high : ℕ) (xs : List ℕ) → HasWithin low high xs → first_from xs (low + 1) ≤ high
 within_first low high xs (x, m, l, u) = omega (arith, first_from-least xs (low + 1) x m (omega arith))
 
-has-HasWithin : (low high : ℕ) (xs : List ℕ) → low < high → high < TOP → has_within low high xs ≡ true → HasWithin low high xs
+has-HasWithin : (low high : ℕ) (xs : List ℕ) → low < high → high < TOP → has_within low high xs ≡ true
+    → HasWithin low high xs
 has-HasWithin low high xs l t h = first_within low high xs l t (le_true (first_from xs (low + 1)) high h)
 
 HasWithin-has : (low high : ℕ) (xs : List ℕ) → HasWithin low high xs → has_within low high xs ≡ true
@@ -54,18 +57,21 @@ both : (a b : Bool) → a ≡ true → b ≡ true → a && b ≡ true
 both true b h k = k
 both false b h k = absurd cc
 
-each-All : (low high : ℕ) (ws : List (List ℕ)) → low < high → high < TOP → each_within low high ws ≡ true → All (HasWithin low high) ws
+each-All : (low high : ℕ) (ws : List (List ℕ)) → low < high → high < TOP → each_within low high ws ≡ true
+    → All (HasWithin low high) ws
 unfolding each_within
 each-All low high [] l t h = All-nil (HasWithin low high)
 each-All low high (w ∷ ws) l t h =
-    All-cons (HasWithin low high) w ws (has-HasWithin low high w l t (both_left (has_within low high w) (each_within low high ws) h))
+    All-cons (HasWithin low high) w ws (has-HasWithin low high w l t
+    (both_left (has_within low high w) (each_within low high ws) h))
     (each-All low high ws l t (both_right (has_within low high w) (each_within low high ws) h))
 
 All-each : (low high : ℕ) (ws : List (List ℕ)) → All (HasWithin low high) ws → each_within low high ws ≡ true
 unfolding each_within
 All-each low high [] a = refl
 All-each low high (w ∷ ws) a =
-    both (has_within low high w) (each_within low high ws) (HasWithin-has low high w (All-head (HasWithin low high) w ws a))
+    both (has_within low high w) (each_within low high ws)
+    (HasWithin-has low high w (All-head (HasWithin low high) w ws a))
     (All-each low high ws (All-tail (HasWithin low high) w ws a))
 
 none-All : (low high : ℕ) (ws : List (List ℕ)) → none_within low high ws ≡ true → All (λ w. HasWithin low high w → ⊥) ws
@@ -78,12 +84,14 @@ none-All low high (w ∷ ws) h =
     let c : false ≡ true = sym (ap not yes) ∙ no in cc)
     (none-All low high ws (both_right (not (has_within low high w)) (none_within low high ws) h))
 
-All-none : (low high : ℕ) (ws : List (List ℕ)) → low < high → high < TOP → All (λ w. HasWithin low high w → ⊥) ws → none_within low high ws ≡ true
+All-none : (low high : ℕ) (ws : List (List ℕ)) → low < high → high < TOP → All (λ w. HasWithin low high w → ⊥) ws
+    → none_within low high ws ≡ true
 unfolding none_within
 All-none low high [] l t a = refl
 All-none low high (w ∷ ws) l t a =
     both (not (has_within low high w)) (none_within low high ws)
-    (⊎_elim (λ yes. absurd (All-head (λ w. HasWithin low high w → ⊥) w ws a (has-HasWithin low high w l t yes))) (λ no. ap not no)
+    (⊎_elim (λ yes. absurd (All-head (λ w. HasWithin low high w → ⊥) w ws a (has-HasWithin low high w l t yes)))
+    (λ no. ap not no)
     (true_or_false (has_within low high w)))
     (All-none low high ws l t (All-tail (λ w. HasWithin low high w → ⊥) w ws a))
 
@@ -99,7 +107,9 @@ having-answers ends words negated e r = (
         each = each-All low e words l b.1 (both_left (each_within low e words) (none_within low e negated) k.1);
         none = none-All low e negated (both_right (each_within low e words) (none_within low e negated) k.1);
       },
-  λ a. let low = pred_of ends e in let b = element_within ends e r a.is_end in let l : low < e = pred_of-below ends e b.0 in
+  λ a. let low = pred_of ends e in let b = element_within ends e r a.is_end
+      in let l : low < e = pred_of-below ends e b.0 in
       filter-keeps (is_answer ends words negated) ends e a.is_end
-      (both (each_within low e words) (none_within low e negated) (All-each low e words a.each) (All-none low e negated l b.1 a.none)),
+      (both (each_within low e words) (none_within low e negated) (All-each low e words a.each)
+      (All-none low e negated l b.1 a.none)),
 )

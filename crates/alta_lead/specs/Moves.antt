@@ -6,7 +6,8 @@ use Rattle.alta_lead.specs.Having.{ends_having}
 
 -- no reader has passed an element of its list from the place on
 abbrev pub AreAhead : ℕ → List (List ℕ) → List ℕ → Type 0
-AreAhead from lists places = (k : ℕ) → k < length lists → IsAhead from (slice_index_or lists k []) (slice_index places k)
+AreAhead from lists places = (k : ℕ) → k < length lists
+    → IsAhead from (slice_index_or lists k []) (slice_index places k)
 
 -- the readers of a conjunction: of the ends, of the words and of the negated words
 pub record Chains (R : Type 0) : Type 0 where
@@ -74,6 +75,8 @@ module _ {R : Type 0} (Sound : R → Type 0) (list all : R → List ℕ) (left c
 
 -- The steps are at most so many moves of each reader, by what one move of each costs: whatever a move of a reader of the ends and of
 -- any other costs by the list that it reads.
-abbrev pub CostsAtMost : {E R : Type 0} → (E → List ℕ) → (E → ℕ) → (R → List ℕ) → (R → ℕ) → ℕ → ((List ℕ → ℕ) → ℕ) → ℕ → ℕ → Type 0
+abbrev pub CostsAtMost : {E R : Type 0} → (E → List ℕ) → (E → ℕ) → (R → List ℕ) → (R → ℕ) → ℕ
+    → ((List ℕ → ℕ) → ℕ) → ℕ → ℕ → Type 0
 CostsAtMost {E = E} {R = R} ends_list ends_cost list cost moves each before after =
-    (of : List ℕ → ℕ) → ((e : E) → ends_cost e ≤ of (ends_list e)) → ((r : R) → cost r ≤ of (list r)) → after ≤ before + moves * each of
+    (of : List ℕ → ℕ) → ((e : E) → ends_cost e ≤ of (ends_list e)) → ((r : R) → cost r ≤ of (list r))
+    → after ≤ before + moves * each of

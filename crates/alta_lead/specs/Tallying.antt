@@ -10,7 +10,8 @@ module _ {E R : Type 0} (EndSound : E → Type 0) (end_list end_all : E → List
     (Sound : R → Type 0) (list all : R → List ℕ) (location left cost : R → ℕ) where
   -- The readers of these lists went on to the first document from `from` on in which the leading list has a location. It ends
   -- there, or there is none and that is TOP; and its end is found in the list `having` or not, which has none before it.
-  pub record IsLedTo (lead having of_ends : List ℕ) (of_words of_negated : List (List ℕ)) (ends ends' : E) (words words' negated negated' : List R)
+  pub record IsLedTo (lead having of_ends : List ℕ) (of_words of_negated : List (List ℕ)) (ends ends' : E)
+      (words words' negated negated' : List R)
       (from end : ℕ) (found : Bool) (before after : ℕ) : Type 0 where
     pub by_ends : ℕ
     pub by_words : ℕ

@@ -11,7 +11,8 @@ chains_of r = record { ends = r.ends.inner; words = r.words.items; negated = r.n
 
 -- What a reader of a conjunction keeps: it stands at an end of its list or at TOP, and below TOP no reader has passed an
 -- element from there on.
-pub record IsSoundLead {R : Type 0} (Sound : R → Type 0) (list : R → List ℕ) (location : R → ℕ) (r : LeadReader R) : Type 0 where
+pub record IsSoundLead {R : Type 0} (Sound : R → Type 0) (list : R → List ℕ) (location : R → ℕ)
+    (r : LeadReader R) : Type 0 where
   pub ends : Sound r.ends.inner
   pub words : All Sound r.words.items
   pub negated : All Sound r.negated.items
@@ -33,7 +34,8 @@ all_of all c = all c.ends ++ concat (map all c.words) ++ concat (map all c.negat
 
 -- The reader went on to the first place of its list at or above `to`. Each of its readers moved at most twice for each
 -- element of the leading word that is behind it now and was not before.
-pub record IsOn {R : Type 0} (Sound : R → Type 0) (list all : R → List ℕ) (location left cost : R → ℕ) (old new : LeadReader R) (to before after : ℕ) : Type 0 where
+pub record IsOn {R : Type 0} (Sound : R → Type 0) (list all : R → List ℕ) (location left cost : R → ℕ)
+    (old new : LeadReader R) (to before after : ℕ) : Type 0 where
   pub sound : IsSoundLead Sound list location new
   pub same : IsSame list old new
   pub same_list : list_of list (chains_of new) ≡ list_of list (chains_of old)
@@ -41,4 +43,5 @@ pub record IsOn {R : Type 0} (Sound : R → Type 0) (list all : R → List ℕ) 
   pub place : new.at ≡ first_from (list_of list (chains_of old)) to
   pub falls : left_of left (chains_of new) < left_of left (chains_of old)
   pub steps : after + left_of left (chains_of new) ≤ before + left_of left (chains_of old)
-  pub moves : MovesEach list cost (chains_of old) (2 * rest_of list (chains_of old) old.lead old.at) (2 * rest_of list (chains_of old) old.lead new.at) before after
+  pub moves : MovesEach list cost (chains_of old) (2 * rest_of list (chains_of old) old.lead old.at)
+      (2 * rest_of list (chains_of old) old.lead new.at) before after

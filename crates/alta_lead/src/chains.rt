@@ -49,7 +49,8 @@ pub(crate) fn bring<R: BackReader, L: Ledger>(
     ensures place { result ≡ first_from (slice_index_or (map R.list readers.old) j []) to }
     ensures ahead { AreAhead to (map R.list readers.old) (map R.location readers.new) }
     ensures moved { AreMoved R.sound R.list R.all R.left R.cost 1 readers.old readers.new (steps.new - steps.old) }
-    ensures own { (of : List ℕ → ℕ) → ((r : R) → R.cost r ≤ of (R.list r)) → steps.new - steps.old ≤ of (slice_index_or (map R.list readers.old) j []) }
+    ensures own { (of : List ℕ → ℕ) → ((r : R) → R.cost r ≤ of (R.list r))
+        → steps.new - steps.old ≤ of (slice_index_or (map R.list readers.old) j []) }
 {
     let here = place_at(readers, j);
     if here < to {
@@ -71,8 +72,10 @@ pub(crate) fn lacking<R: BackReader, L: Ledger>(
     requires sound { All R.sound readers.old }
     requires ahead { AreAhead start (map R.list readers.old) (map R.location readers.old) }
     requires top { start ≤ TOP }
-    ensures none { result ≤ end → (k : ℕ) → k < length readers.old → first_from (slice_index_or (map R.list readers.old) k []) start ≤ end }
-    ensures one { end < result → (k : ℕ) × (k < length readers.old) × (result ≡ first_from (slice_index_or (map R.list readers.old) k []) start) }
+    ensures none { result ≤ end → (k : ℕ) → k < length readers.old
+        → first_from (slice_index_or (map R.list readers.old) k []) start ≤ end }
+    ensures one { end < result → (k : ℕ) × (k < length readers.old)
+        × (result ≡ first_from (slice_index_or (map R.list readers.old) k []) start) }
     ensures ahead { AreAhead start (map R.list readers.old) (map R.location readers.new) }
     ensures moved { AreMoved R.sound R.list R.all R.left R.cost 1 readers.old readers.new (steps.new - steps.old) }
 {
@@ -95,8 +98,10 @@ pub(crate) fn bars<R: BackReader, L: Ledger>(
     requires sound { All R.sound readers.old }
     requires ahead { AreAhead start (map R.list readers.old) (map R.location readers.old) }
     requires top { start ≤ TOP }
-    ensures one { OnTrue result ((k : ℕ) × (k < length readers.old) × (first_from (slice_index_or (map R.list readers.old) k []) start ≤ end)) }
-    ensures none { OnFalse result ((k : ℕ) → k < length readers.old → end < first_from (slice_index_or (map R.list readers.old) k []) start) }
+    ensures one { OnTrue result ((k : ℕ) × (k < length readers.old)
+        × (first_from (slice_index_or (map R.list readers.old) k []) start ≤ end)) }
+    ensures none { OnFalse result ((k : ℕ) → k < length readers.old
+        → end < first_from (slice_index_or (map R.list readers.old) k []) start) }
     ensures ahead { AreAhead start (map R.list readers.old) (map R.location readers.new) }
     ensures moved { AreMoved R.sound R.list R.all R.left R.cost 1 readers.old readers.new (steps.new - steps.old) }
 {

@@ -32,9 +32,12 @@ fn document<E: BackReader, R: BackReader, L: Ledger>(
     requires begins { pred_of (E.list ends.old.inner) from + 1 ≡ from }
     requires ends_ahead { IsAhead from (E.list ends.old.inner) (E.location ends.old.inner) }
     requires words_ahead { AreAhead from (map R.list words.old) (map R.location words.old) }
-    ensures { IsLedTo E.sound E.list E.all E.location E.left E.cost R.sound R.list R.all R.location R.left R.cost (slice_index_or (map R.list words.old) 0 [])
-        (ends_followed (E.list ends.old.inner) (slice_index_or (map R.list words.old) 0 []) (slice_index_or (map R.list words.old) 1 []))
-        (E.list ends.old.inner) (map R.list words.old) [] ends.old.inner ends.new.inner words.old words.new [] [] from result.0 result.1 steps.old steps.new }
+    ensures { IsLedTo E.sound E.list E.all E.location E.left E.cost R.sound R.list R.all R.location R.left R.cost
+        (slice_index_or (map R.list words.old) 0 [])
+        (ends_followed (E.list ends.old.inner) (slice_index_or (map R.list words.old) 0 [])
+        (slice_index_or (map R.list words.old) 1 []))
+        (E.list ends.old.inner) (map R.list words.old) [] ends.old.inner ends.new.inner words.old words.new [] [] from
+        result.0 result.1 steps.old steps.new }
 {
     let at = bring(words, 0, from, steps);
     let end = reach(ends, at, steps);
@@ -60,9 +63,12 @@ pub fn tally_followed<E: BackReader, R: BackReader, L: Ledger>(
     requires ends_unmoved { E.location ends.old.inner ≡ first_from (E.list ends.old.inner) 0 }
     requires words_unmoved { All (λ r. R.location r ≡ first_from (R.list r) 0) words.old }
     requires gone { IsRising gone.now }
-    ensures count { result ≡ count_from (less (ends_followed (E.list ends.old.inner) (slice_index_or (map R.list words.old) 0 []) (slice_index_or (map R.list words.old) 1 [])) gone.now) 0 }
+    ensures count { result ≡ count_from (less
+        (ends_followed (E.list ends.old.inner) (slice_index_or (map R.list words.old) 0 [])
+        (slice_index_or (map R.list words.old) 1 [])) gone.now) 0 }
     ensures steps { steps.new ≤ steps.old + (E.left ends.old.inner + sum_by R.left words.old) }
-    ensures moves { CostsAtMost E.list E.cost R.list R.cost (2 * count_from (slice_index_or (map R.list words.old) 0 []) 1 + 2)
+    ensures moves { CostsAtMost E.list E.cost R.list R.cost
+        (2 * count_from (slice_index_or (map R.list words.old) 0 []) 1 + 2)
         (λ of. of (E.list ends.old.inner) + sum_by of (map R.list words.old)) steps.old steps.new }
 {
     let mut live = 0;

@@ -52,15 +52,23 @@ impl<R: BackReader> LeadReader<R> {
         ensures same_ends { R.list result.ends.inner ≡ R.list ends.inner }
         ensures same_words { map R.list result.words.items ≡ map R.list words.items }
         ensures same_negated { map R.list result.negated.items ≡ map R.list negated.items }
-        ensures list { ⟦<LeadReader<R> as Reader>⟧.list result ≡ ends_having (R.list ends.inner) (map R.list words.items) (map R.list negated.items) }
-        ensures answers { (e : ℕ) → Contains (⟦<LeadReader<R> as Reader>⟧.list result) e ↔ IsAnswer (R.list ends.inner) (map R.list words.items) (map R.list negated.items) e }
-        ensures all { ⟦<LeadReader<R> as Reader>⟧.all result ≡ R.all ends.inner ++ concat (map R.all words.items) ++ concat (map R.all negated.items) }
-        ensures location { ⟦<LeadReader<R> as Reader>⟧.location result ≡ first_from (⟦<LeadReader<R> as Reader>⟧.list result) 1 }
-        ensures left { ⟦<LeadReader<R> as Reader>⟧.left result ≤ left_of R.left (record { ends = ends.inner; words = words.items; negated = negated.items }) }
-        ensures steps { steps.new + ⟦<LeadReader<R> as Reader>⟧.left result ≤ steps.old + left_of R.left (record { ends = ends.inner; words = words.items; negated = negated.items }) }
+        ensures list { ⟦<LeadReader<R> as Reader>⟧.list result
+            ≡ ends_having (R.list ends.inner) (map R.list words.items) (map R.list negated.items) }
+        ensures answers { (e : ℕ) → Contains (⟦<LeadReader<R> as Reader>⟧.list result) e
+            ↔ IsAnswer (R.list ends.inner) (map R.list words.items) (map R.list negated.items) e }
+        ensures all { ⟦<LeadReader<R> as Reader>⟧.all result ≡ R.all ends.inner ++ concat (map R.all words.items)
+            ++ concat (map R.all negated.items) }
+        ensures location { ⟦<LeadReader<R> as Reader>⟧.location result
+            ≡ first_from (⟦<LeadReader<R> as Reader>⟧.list result) 1 }
+        ensures left { ⟦<LeadReader<R> as Reader>⟧.left result
+            ≤ left_of R.left (record { ends = ends.inner; words = words.items; negated = negated.items }) }
+        ensures steps { steps.new + ⟦<LeadReader<R> as Reader>⟧.left result
+            ≤ steps.old + left_of R.left (record { ends = ends.inner; words = words.items; negated = negated.items }) }
         ensures leads { result.lead ≡ lead }
-        ensures moves { MovesEach R.list R.cost (chains_of result) (2 * length (slice_index_or (map R.list words.items) lead []) + 2)
-            (2 * rest_of R.list (chains_of result) lead (⟦<LeadReader<R> as Reader>⟧.location result)) steps.old steps.new }
+        ensures moves { MovesEach R.list R.cost (chains_of result)
+            (2 * length (slice_index_or (map R.list words.items) lead []) + 2)
+            (2 * rest_of R.list (chains_of result) lead (⟦<LeadReader<R> as Reader>⟧.location result))
+            steps.old steps.new }
     {
         let mut reader = LeadReader {
             ends,
@@ -91,9 +99,11 @@ impl<R: BackReader> LeadReader<R> {
         requires lead { self.old.lead < length self.old.words.items }
         requires some { 0 < to }
         requires top { to ≤ TOP }
-        requires unpassed { IsUnpassed R.list R.location (chains_of self.old) (pred_of (R.list self.old.ends.inner) to + 1) }
+        requires unpassed { IsUnpassed R.list R.location (chains_of self.old)
+            (pred_of (R.list self.old.ends.inner) to + 1) }
         ensures lead { self.new.lead ≡ self.old.lead }
-        ensures gone { IsGone R.sound R.list R.all R.location R.left R.cost self.old.lead (chains_of self.old) (chains_of self.new) to self.new.at steps.old steps.new }
+        ensures gone { IsGone R.sound R.list R.all R.location R.left R.cost self.old.lead (chains_of self.old)
+            (chains_of self.new) to self.new.at steps.old steps.new }
     {
         self.at = go(
             &mut self.ends,
@@ -135,7 +145,8 @@ impl<R: BackReader> Reader for LeadReader<R> {
         ensures location { result ≡ ⟦<LeadReader<R> as Reader>⟧.location self.now }
         ensures place { IsPlace (⟦<LeadReader<R> as Reader>⟧.list self.now) result }
         ensures unpassed { result < TOP → IsUnpassed R.list R.location (chains_of self.now) result }
-        ensures counted { result < TOP → count_from (⟦<LeadReader<R> as Reader>⟧.all self.now) result ≤ ⟦<LeadReader<R> as Reader>⟧.left self.now }
+        ensures counted { result < TOP → count_from (⟦<LeadReader<R> as Reader>⟧.all self.now) result
+            ≤ ⟦<LeadReader<R> as Reader>⟧.left self.now }
     {
         self.at
     }
@@ -148,12 +159,16 @@ impl<R: BackReader> Reader for LeadReader<R> {
         ensures sound { ⟦<LeadReader<R> as Reader>⟧.sound self.new }
         ensures list { ⟦<LeadReader<R> as Reader>⟧.list self.new ≡ ⟦<LeadReader<R> as Reader>⟧.list self.old }
         ensures all { ⟦<LeadReader<R> as Reader>⟧.all self.new ≡ ⟦<LeadReader<R> as Reader>⟧.all self.old }
-        ensures location { ⟦<LeadReader<R> as Reader>⟧.location self.new ≡ first_from (⟦<LeadReader<R> as Reader>⟧.list self.old) (⟦<LeadReader<R> as Reader>⟧.location self.old + 1) }
+        ensures location { ⟦<LeadReader<R> as Reader>⟧.location self.new
+            ≡ first_from (⟦<LeadReader<R> as Reader>⟧.list self.old)
+            (⟦<LeadReader<R> as Reader>⟧.location self.old + 1) }
         ensures falls { ⟦<LeadReader<R> as Reader>⟧.left self.new < ⟦<LeadReader<R> as Reader>⟧.left self.old }
-        ensures steps { steps.new + ⟦<LeadReader<R> as Reader>⟧.left self.new ≤ steps.old + ⟦<LeadReader<R> as Reader>⟧.left self.old }
+        ensures steps { steps.new + ⟦<LeadReader<R> as Reader>⟧.left self.new
+            ≤ steps.old + ⟦<LeadReader<R> as Reader>⟧.left self.old }
         ensures cost { steps.new ≤ steps.old + ⟦<LeadReader<R> as Reader>⟧.cost self.old }
         ensures same { IsSame R.list self.old self.new }
-        ensures moves { MovesEach R.list R.cost (chains_of self.old) (2 * rest_of R.list (chains_of self.old) self.old.lead self.old.at)
+        ensures moves { MovesEach R.list R.cost (chains_of self.old)
+            (2 * rest_of R.list (chains_of self.old) self.old.lead self.old.at)
             (2 * rest_of R.list (chains_of self.old) self.old.lead self.new.at) steps.old steps.new }
     {
         let to = self.at + 1;
@@ -169,18 +184,22 @@ impl<R: BackReader> Reader for LeadReader<R> {
         ensures sound { ⟦<LeadReader<R> as Reader>⟧.sound self.new }
         ensures list { ⟦<LeadReader<R> as Reader>⟧.list self.new ≡ ⟦<LeadReader<R> as Reader>⟧.list self.old }
         ensures all { ⟦<LeadReader<R> as Reader>⟧.all self.new ≡ ⟦<LeadReader<R> as Reader>⟧.all self.old }
-        ensures location { ⟦<LeadReader<R> as Reader>⟧.location self.new ≡ first_from (⟦<LeadReader<R> as Reader>⟧.list self.old) to }
+        ensures location { ⟦<LeadReader<R> as Reader>⟧.location self.new
+            ≡ first_from (⟦<LeadReader<R> as Reader>⟧.list self.old) to }
         ensures falls { ⟦<LeadReader<R> as Reader>⟧.left self.new < ⟦<LeadReader<R> as Reader>⟧.left self.old }
-        ensures steps { steps.new + ⟦<LeadReader<R> as Reader>⟧.left self.new ≤ steps.old + ⟦<LeadReader<R> as Reader>⟧.left self.old }
+        ensures steps { steps.new + ⟦<LeadReader<R> as Reader>⟧.left self.new
+            ≤ steps.old + ⟦<LeadReader<R> as Reader>⟧.left self.old }
         ensures cost { steps.new ≤ steps.old + ⟦<LeadReader<R> as Reader>⟧.cost self.old }
         ensures same { IsSame R.list self.old self.new }
-        ensures moves { MovesEach R.list R.cost (chains_of self.old) (2 * rest_of R.list (chains_of self.old) self.old.lead self.old.at)
+        ensures moves { MovesEach R.list R.cost (chains_of self.old)
+            (2 * rest_of R.list (chains_of self.old) self.old.lead self.old.at)
             (2 * rest_of R.list (chains_of self.old) self.old.lead self.new.at) steps.old steps.new }
     {
         self.go_on(to, steps);
     }
 
-    ghost rises = { λ s h. having-rises (R.list s.ends.inner) (map R.list s.words.items) (map R.list s.negated.items) h.rising };
+    ghost rises = { λ s h. having-rises (R.list s.ends.inner) (map R.list s.words.items)
+        (map R.list s.negated.items) h.rising };
 
     ghost stands = { λ s h. h.stands };
 }

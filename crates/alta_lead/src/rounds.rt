@@ -26,9 +26,12 @@ fn led<R: BackReader, L: Ledger>(
     requires lead { lead < length words.old }
     requires some { 0 < to }
     requires top { to ≤ TOP }
-    requires ends_ahead { IsAhead (pred_of (R.list ends.old.inner) to + 1) (R.list ends.old.inner) (R.location ends.old.inner) }
-    requires words_ahead { AreAhead (pred_of (R.list ends.old.inner) to + 1) (map R.list words.old) (map R.location words.old) }
-    ensures { IsLed R.sound R.list R.all R.location R.left R.cost lead ends.old.inner ends.new.inner words.old words.new to result steps.old steps.new }
+    requires ends_ahead { IsAhead (pred_of (R.list ends.old.inner) to + 1) (R.list ends.old.inner)
+        (R.location ends.old.inner) }
+    requires words_ahead { AreAhead (pred_of (R.list ends.old.inner) to + 1) (map R.list words.old)
+        (map R.location words.old) }
+    ensures { IsLed R.sound R.list R.all R.location R.left R.cost lead ends.old.inner ends.new.inner words.old
+        words.new to result steps.old steps.new }
 {
     let end = reach(ends, to, steps);
     if end == TOP {
@@ -55,7 +58,8 @@ pub(crate) fn told<R: BackReader, L: Ledger>(
     requires negated_ahead { AreAhead start (map R.list negated.old) (map R.location negated.old) }
     ensures told { IsTold (map R.list words.old) (map R.list negated.old) start end result }
     ensures words { (spent : ℕ) × AreMoved R.sound R.list R.all R.left R.cost 1 words.old words.new spent
-        × (spent_on : ℕ) × AreMoved R.sound R.list R.all R.left R.cost 1 negated.old negated.new spent_on × (steps.new ≤ steps.old + spent + spent_on) }
+        × (spent_on : ℕ) × AreMoved R.sound R.list R.all R.left R.cost 1 negated.old negated.new spent_on
+        × (steps.new ≤ steps.old + spent + spent_on) }
     ensures words_ahead { AreAhead start (map R.list words.old) (map R.location words.new) }
     ensures negated_ahead { AreAhead start (map R.list negated.old) (map R.location negated.new) }
 {
@@ -85,10 +89,13 @@ fn round<R: BackReader, L: Ledger>(
     requires lead { lead < length words.old }
     requires some { 0 < to }
     requires top { to ≤ TOP }
-    requires unpassed { IsUnpassed R.list R.location (record { ends = ends.old.inner; words = words.old; negated = negated.old }) (pred_of (R.list ends.old.inner) to + 1) }
+    requires unpassed { IsUnpassed R.list R.location
+        (record { ends = ends.old.inner; words = words.old; negated = negated.old })
+        (pred_of (R.list ends.old.inner) to + 1) }
     ensures { IsRound R.sound R.list R.all R.location R.left R.cost lead
         (record { ends = ends.old.inner; words = words.old; negated = negated.old })
-        (record { ends = ends.new.inner; words = words.new; negated = negated.new }) to result.0 result.1 steps.old steps.new }
+        (record { ends = ends.new.inner; words = words.new; negated = negated.new }) to result.0 result.1
+        steps.old steps.new }
 {
     let end = led(ends, words, lead, to, steps);
     if end == TOP {
@@ -113,7 +120,9 @@ pub(crate) fn go<R: BackReader, L: Ledger>(
     requires lead { lead < length words.old }
     requires some { 0 < to }
     requires top { to ≤ TOP }
-    requires unpassed { IsUnpassed R.list R.location (record { ends = ends.old.inner; words = words.old; negated = negated.old }) (pred_of (R.list ends.old.inner) to + 1) }
+    requires unpassed { IsUnpassed R.list R.location
+        (record { ends = ends.old.inner; words = words.old; negated = negated.old })
+        (pred_of (R.list ends.old.inner) to + 1) }
     ensures { IsGone R.sound R.list R.all R.location R.left R.cost lead
         (record { ends = ends.old.inner; words = words.old; negated = negated.old })
         (record { ends = ends.new.inner; words = words.new; negated = negated.new }) to result steps.old steps.new }

@@ -38,9 +38,12 @@ fn document<E: BackReader, R: BackReader, L: Ledger>(
     requires ends_ahead { IsAhead from (E.list ends.old.inner) (E.location ends.old.inner) }
     requires words_ahead { AreAhead from (map R.list words.old) (map R.location words.old) }
     requires negated_ahead { AreAhead from (map R.list negated.old) (map R.location negated.old) }
-    ensures { IsLedTo E.sound E.list E.all E.location E.left E.cost R.sound R.list R.all R.location R.left R.cost (slice_index_or (map R.list words.old) lead [])
-        (ends_having (E.list ends.old.inner) (map R.list words.old) (map R.list negated.old)) (E.list ends.old.inner) (map R.list words.old) (map R.list negated.old)
-        ends.old.inner ends.new.inner words.old words.new negated.old negated.new from result.0 result.1 steps.old steps.new }
+    ensures { IsLedTo E.sound E.list E.all E.location E.left E.cost R.sound R.list R.all R.location R.left R.cost
+        (slice_index_or (map R.list words.old) lead [])
+        (ends_having (E.list ends.old.inner) (map R.list words.old) (map R.list negated.old)) (E.list ends.old.inner)
+        (map R.list words.old) (map R.list negated.old)
+        ends.old.inner ends.new.inner words.old words.new negated.old negated.new from result.0 result.1
+        steps.old steps.new }
 {
     let at = bring(words, lead, from, steps);
     let end = reach(ends, at, steps);
@@ -102,10 +105,14 @@ fn tally_from<E: BackReader, R: BackReader, L: Ledger>(
     requires words_ahead { AreAhead start (map R.list words.old) (map R.location words.old) }
     requires negated_ahead { AreAhead start (map R.list negated.old) (map R.location negated.old) }
     requires gone { IsRising gone.now }
-    ensures count { result ≡ count_from (less (ends_having (E.list ends.old.inner) (map R.list words.old) (map R.list negated.old)) gone.now) start }
-    ensures steps { steps.new ≤ steps.old + (E.left ends.old.inner + sum_by R.left words.old + sum_by R.left negated.old) }
-    ensures moves { CostsAtMost E.list E.cost R.list R.cost (2 * count_from (slice_index_or (map R.list words.old) lead []) start + 2)
-        (λ of. of (E.list ends.old.inner) + sum_by of (map R.list words.old) + sum_by of (map R.list negated.old)) steps.old steps.new }
+    ensures count { result ≡ count_from (less
+        (ends_having (E.list ends.old.inner) (map R.list words.old) (map R.list negated.old)) gone.now) start }
+    ensures steps { steps.new ≤ steps.old + (E.left ends.old.inner + sum_by R.left words.old
+        + sum_by R.left negated.old) }
+    ensures moves { CostsAtMost E.list E.cost R.list R.cost
+        (2 * count_from (slice_index_or (map R.list words.old) lead []) start + 2)
+        (λ of. of (E.list ends.old.inner) + sum_by of (map R.list words.old) + sum_by of (map R.list negated.old))
+        steps.old steps.new }
 {
     let mut live = 0;
     let mut from = start;
@@ -139,15 +146,20 @@ pub fn tally<E: BackReader, R: BackReader, L: Ledger>(
     requires words { All R.sound words.old }
     requires negated { All R.sound negated.old }
     requires lead { lead < length words.old }
-    requires answer { Contains (ends_having (E.list ends.old.inner) (map R.list words.old) (map R.list negated.old)) at }
+    requires answer { Contains (ends_having (E.list ends.old.inner) (map R.list words.old)
+        (map R.list negated.old)) at }
     requires ends_ahead { IsAhead at (E.list ends.old.inner) (E.location ends.old.inner) }
     requires words_ahead { AreAhead at (map R.list words.old) (map R.location words.old) }
     requires negated_ahead { AreAhead at (map R.list negated.old) (map R.location negated.old) }
     requires gone { IsRising gone.now }
-    ensures count { result ≡ count_from (less (ends_having (E.list ends.old.inner) (map R.list words.old) (map R.list negated.old)) gone.now) at }
-    ensures steps { steps.new ≤ steps.old + (E.left ends.old.inner + sum_by R.left words.old + sum_by R.left negated.old) }
-    ensures moves { CostsAtMost E.list E.cost R.list R.cost (2 * count_from (slice_index_or (map R.list words.old) lead []) (pred_of (E.list ends.old.inner) at + 1))
-        (λ of. of (E.list ends.old.inner) + sum_by of (map R.list words.old) + sum_by of (map R.list negated.old)) steps.old steps.new }
+    ensures count { result ≡ count_from (less
+        (ends_having (E.list ends.old.inner) (map R.list words.old) (map R.list negated.old)) gone.now) at }
+    ensures steps { steps.new ≤ steps.old + (E.left ends.old.inner + sum_by R.left words.old
+        + sum_by R.left negated.old) }
+    ensures moves { CostsAtMost E.list E.cost R.list R.cost
+        (2 * count_from (slice_index_or (map R.list words.old) lead []) (pred_of (E.list ends.old.inner) at + 1))
+        (λ of. of (E.list ends.old.inner) + sum_by of (map R.list words.old) + sum_by of (map R.list negated.old))
+        steps.old steps.new }
 {
     let (_passed, here) = counted(gone, 0, at, true);
     let behind = tally_from(ends, words, negated, lead, at + 1, gone, steps);

@@ -24,7 +24,8 @@ abbrev pub row_fields : Row → List ℕ
 row_fields row = row.first ∷ row.last ∷ row.place ∷ []
 
 abbrev pub group_fields : List Row → List ℕ
-group_fields rows = map (λ g. slice_index (lasts_of rows) (last_row (length rows) g)) (range_with_len 0 (groups_of (length rows)))
+group_fields rows = map (λ g. slice_index (lasts_of rows) (last_row (length rows) g))
+    (range_with_len 0 (groups_of (length rows)))
 
 unfoldable pub table_fields : List Row → List ℕ
 table_fields rows = flat_map row_fields rows ++ group_fields rows

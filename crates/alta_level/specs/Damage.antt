@@ -32,14 +32,16 @@ unfoldable pub AreListsOf : List DocRow → List TermRow → List ℕ → ℕ �
 AreListsOf documents [] bytes place lists = lists ≡ []
 AreListsOf documents (row ∷ rows) bytes place [] = ⊥
 AreListsOf documents (row ∷ rows) bytes place (l ∷ ls) =
-    (l.term ≡ row.term) × IsListOf documents (stored_at row bytes place) l.locations × AreListsOf documents rows (drop (data_of row) bytes) (place + data_of row) ls
+    (l.term ≡ row.term) × IsListOf documents (stored_at row bytes place) l.locations
+    × AreListsOf documents rows (drop (data_of row) bytes) (place + data_of row) ls
 
 -- the first fault of the lists: all lists before it are whole
 unfoldable pub IsFaultInLists : List DocRow → List TermRow → List ℕ → ℕ → ℕ → Type 0
 IsFaultInLists documents [] bytes place p = ⊥
 IsFaultInLists documents (row ∷ rows) bytes place p =
     IsListFault documents (stored_at row bytes place) p
-    ⊎ (((list : List ℕ) × IsListOf documents (stored_at row bytes place) list) × IsFaultInLists documents rows (drop (data_of row) bytes) (place + data_of row) p)
+    ⊎ (((list : List ℕ) × IsListOf documents (stored_at row bytes place) list)
+    × IsFaultInLists documents rows (drop (data_of row) bytes) (place + data_of row) p)
 
 -- the bytes behind the tables
 abbrev pub data_in : List ℕ → Tables → List ℕ
@@ -52,4 +54,5 @@ data_place tables = tables.place + length (tables_bytes tables.documents tables.
 pub data IsSegmentFault (bytes : List ℕ) (place : ℕ) : ℕ → Type 0 where
   in_tables : (p : ℕ) → IsDamage bytes place (length bytes) p → IsSegmentFault bytes place p
   in_lists : (tables : Tables) (p : ℕ) → AreTables bytes place (length bytes) tables
-      → IsFaultInLists tables.documents tables.terms (data_in bytes tables) (data_place tables) p → IsSegmentFault bytes place p
+      → IsFaultInLists tables.documents tables.terms (data_in bytes tables) (data_place tables) p
+      → IsSegmentFault bytes place p

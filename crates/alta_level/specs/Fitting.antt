@@ -13,7 +13,8 @@ pub record AreFitting (documents : List DocRow) (ends : Bool) (list : List ℕ) 
 -- each location lies in a run, and the runs before this one end before the last of them
 pub record AreInRunsTo (firsts ends locations : List ℕ) (run : ℕ) : Type 0 where
   pub within : run ≤ length ends
-  pub passed : 0 < length locations → (i : ℕ) → i < run → slice_index ends i < slice_index locations (length locations - 1)
+  pub passed : 0 < length locations → (i : ℕ) → i < run → slice_index ends i
+      < slice_index locations (length locations - 1)
   pub held : AreInRuns firsts ends locations
 
 -- a location lies in no run
@@ -31,4 +32,5 @@ pub record AreEndsTo (documents : List DocRow) (from : ℕ) (locations : List �
 -- there are more locations than ends from the row on, or a location is not the end
 abbrev pub HasOther : List DocRow → ℕ → List ℕ → Type 0
 HasOther documents from locations =
-    (length documents < from + length locations) ⊎ ((k : ℕ) × (k < length locations) × (slice_index locations k ≡ slice_index (ends_of documents) (from + k) → ⊥))
+    (length documents < from + length locations)
+    ⊎ ((k : ℕ) × (k < length locations) × (slice_index locations k ≡ slice_index (ends_of documents) (from + k) → ⊥))

@@ -34,7 +34,8 @@ stored_of s = record {
 -- the ranges of documents stand one behind the other
 pub record AreApart (documents : List DocRow) : Type 0 where
   pub rising : IsRising (ends_of documents)
-  pub apart : (i j : ℕ) → i < j → j < length documents → slice_index (ends_of documents) i < slice_index (firsts_of documents) j
+  pub apart : (i j : ℕ) → i < j → j < length documents → slice_index (ends_of documents) i
+      < slice_index (firsts_of documents) j
 
 -- a list keeps what its row and the documents say of it
 pub record Fits (documents : List DocRow) (term : List ℕ) (count : ℕ) (list : List ℕ) : Type 0 where
@@ -50,7 +51,11 @@ pub record IsListOf (documents : List DocRow) (s : Stored) (list : List ℕ) : T
 -- The first fault of a list, as a place on the disk: the stream's own, the summary's own, the first row that is not
 -- its block or is missing, and last the stream's first byte, where it keeps not what its row and the documents say.
 pub data IsListFault (documents : List DocRow) (s : Stored) : ℕ → Type 0 where
-  in_stream : (at : ℕ) (why : StreamCause) → first_fault s.stream ≡ Some (fault_at at why) → IsListFault documents s (s.stream_place + at)
-  in_summary : (at : ℕ) → Spells s.stream (decoded_list s.stream) → IsFault s.summary at → IsListFault documents s (s.summary_place + at)
-  in_row : (b row : ℕ) → IsFirstDifferent s.stream s.summary b row → IsListFault documents s (s.summary_place + 24 * row)
-  in_list : (b : ℕ) → IsPosting s.stream s.summary b → (Fits documents s.term s.count (decoded_list s.stream) → ⊥) → IsListFault documents s s.stream_place
+  in_stream : (at : ℕ) (why : StreamCause) → first_fault s.stream ≡ Some (fault_at at why)
+      → IsListFault documents s (s.stream_place + at)
+  in_summary : (at : ℕ) → Spells s.stream (decoded_list s.stream) → IsFault s.summary at
+      → IsListFault documents s (s.summary_place + at)
+  in_row : (b row : ℕ) → IsFirstDifferent s.stream s.summary b row
+      → IsListFault documents s (s.summary_place + 24 * row)
+  in_list : (b : ℕ) → IsPosting s.stream s.summary b → (Fits documents s.term s.count (decoded_list s.stream) → ⊥)
+      → IsListFault documents s s.stream_place

@@ -10,6 +10,7 @@ use Rattle.alta_level.specs.declared.walking.Walked.{Walked}
 -- their first fault.
 pub record Walks (stream summary : List ℕ) (Fits : Type 0) (result : Result Walked PostingFault) : Type 0 where
   pub posting : IfOk result (λ walked. IsPosting stream summary walked.bounds.rows)
-  pub bounds : IfOk result (λ walked. HasBounds (decoded_list stream) walked.bounds.count walked.bounds.first walked.bounds.last)
+  pub bounds : IfOk result (λ walked. HasBounds (decoded_list stream) walked.bounds.count
+      walked.bounds.first walked.bounds.last)
   pub fits : IfOk result (λ walked. IsTrue walked.fits ↔ Fits)
   pub fault : IfErr result (IsPostingFault stream summary)

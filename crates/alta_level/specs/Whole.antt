@@ -6,6 +6,7 @@ use Rattle.alta_table.specs.Answers.{IfDamaged}
 use Rattle.alta_level.specs.Stored.{IsListFault, IsListOf, Stored}
 
 -- on Ok what stands there is this list, and a damage is its first fault
-pub record ReadsList {X : Type 0} (documents : List DocRow) (s : Stored) (list : List ℕ) (result : Result X LevelFault) : Type 0 where
+pub record ReadsList {X : Type 0} (documents : List DocRow) (s : Stored) (list : List ℕ)
+    (result : Result X LevelFault) : Type 0 where
   pub found : IfOk result (λ x. IsListOf documents s list)
   pub first : IfDamaged result (IsListFault documents s)

@@ -60,7 +60,8 @@ fn may_end_in(table: &Summary<'_>, block: usize, runs: &Runs, run: usize) -> boo
 fn pass_block(stream: &[u8], read: &Compared) -> Result<Met, StreamFault>
     requires more { read.now.at < length stream.now }
     requires low { read.now.last < TOP }
-    ensures { (firsts ends : List ℕ) → ReadsFrom stream.now read.now.at read.now.last (IsMet stream.now read.now.at read.now.last firsts ends None) result }
+    ensures { (firsts ends : List ℕ) → ReadsFrom stream.now read.now.at read.now.last
+        (IsMet stream.now read.now.at read.now.last firsts ends None) result }
 {
     match scan_block(stream, read.at, read.last) {
         Ok(span) => Ok(Met { span, run: None }),
@@ -81,7 +82,8 @@ fn fill_beside(
     requires low { read.now.last < TOP }
     requires within { from ≤ length runs.now.ends.items }
     requires passed { (i : ℕ) → i < from → slice_index runs.now.ends.items i < read.now.last }
-    ensures { ReadsFrom stream.now read.now.at read.now.last (IsMet stream.now read.now.at read.now.last runs.now.firsts.items runs.now.ends.items (Some from)) result }
+    ensures { ReadsFrom stream.now read.now.at read.now.last
+        (IsMet stream.now read.now.at read.now.last runs.now.firsts.items runs.now.ends.items (Some from)) result }
 {
     match fill_block(stream, read.at, read.last, block) {
         Ok(span) => {
@@ -105,7 +107,8 @@ fn scan_beside(
     requires low { read.now.last < TOP }
     requires within { from < length runs.now.ends.items }
     requires passed { (i : ℕ) → i < from → slice_index runs.now.ends.items i < read.now.last }
-    ensures { ReadsFrom stream.now read.now.at read.now.last (IsMet stream.now read.now.at read.now.last runs.now.firsts.items runs.now.ends.items (Some from)) result }
+    ensures { ReadsFrom stream.now read.now.at read.now.last
+        (IsMet stream.now read.now.at read.now.last runs.now.firsts.items runs.now.ends.items (Some from)) result }
 {
     match scan_block(stream, read.at, read.last) {
         Ok(span) => {
@@ -135,7 +138,8 @@ fn read_beside(
     requires low { read.now.last < TOP }
     requires within { from ≤ length runs.now.ends.items }
     requires passed { (i : ℕ) → i < from → slice_index runs.now.ends.items i < read.now.last }
-    ensures { ReadsFrom stream.now read.now.at read.now.last (IsMet stream.now read.now.at read.now.last runs.now.firsts.items runs.now.ends.items (Some from)) result }
+    ensures { ReadsFrom stream.now read.now.at read.now.last
+        (IsMet stream.now read.now.at read.now.last runs.now.firsts.items runs.now.ends.items (Some from)) result }
 {
     if may_end_in(table, read.blocks, runs, from) {
         return scan_beside(stream, runs, read, from, block);
@@ -159,7 +163,8 @@ pub fn next_block(
     requires low { read.now.last < TOP }
     requires within { IfSome run (λ from. from ≤ length runs.now.ends.items) }
     requires passed { IfSome run (λ from. (i : ℕ) → i < from → slice_index runs.now.ends.items i < read.now.last) }
-    ensures { ReadsFrom stream.now read.now.at read.now.last (IsMet stream.now read.now.at read.now.last runs.now.firsts.items runs.now.ends.items run) result }
+    ensures { ReadsFrom stream.now read.now.at read.now.last
+        (IsMet stream.now read.now.at read.now.last runs.now.firsts.items runs.now.ends.items run) result }
 {
     match run {
         Some(from) => read_beside(stream, table, runs, read, from, block),

@@ -30,9 +30,11 @@ fn put_one(
 ) -> Result<(), AllocError>
     requires { (locations : List ℕ) × IsRising locations × AreGaps list.gaps.now list.count locations }
     ensures terms { (locations : List ℕ) → IsRising locations → AreGaps list.entry.gaps.now list.entry.count locations
-        → OnOk result (terms.new.items ≡ terms.old.items ++ entry_bytes before.now (row_of (record { term = term.now; locations = locations }))) }
+        → OnOk result (terms.new.items ≡ terms.old.items ++ entry_bytes before.now
+        (row_of (record { term = term.now; locations = locations }))) }
     ensures streams { (locations : List ℕ) → IsRising locations → AreGaps list.entry.gaps.now list.entry.count locations
-        → OnOk result (streams.new.items ≡ streams.old.items ++ list_bytes (record { term = term.now; locations = locations })) }
+        → OnOk result (streams.new.items ≡ streams.old.items ++ list_bytes
+        (record { term = term.now; locations = locations })) }
 {
     let count = list.count;
     let size = put_list(alloc, streams, rows, list)?;
@@ -75,7 +77,8 @@ fn assemble(
     streams: Vec<u8>,
 ) -> Result<Vec<u8>, AllocError>
     ensures { (content : Content) → rows ≡ length content.documents → lists ≡ length content.lists
-        → documents.now ≡ documents_bytes content.documents → terms.now ≡ terms_bytes (rows_of content.lists) → streams.items ≡ flat_map list_bytes content.lists
+        → documents.now ≡ documents_bytes content.documents → terms.now ≡ terms_bytes (rows_of content.lists)
+        → streams.items ≡ flat_map list_bytes content.lists
         → IfOk result (λ bytes. bytes.items ≡ segment_bytes content) }
 {
     let head = Head {

@@ -47,7 +47,8 @@ fn read_coded(
 ) -> Result<(), LevelFault>
     requires stream { list.now.stream_place + length list.now.stream.now < 2 ^ 64 }
     requires summary { list.now.summary_place + length list.now.summary.now < 2 ^ 64 }
-    ensures coded { IfOk result (λ x. IsCoded list.now.stream.now list.now.summary.now (decoded_list list.now.stream.now)) }
+    ensures coded { IfOk result (λ x. IsCoded list.now.stream.now list.now.summary.now
+        (decoded_list list.now.stream.now)) }
     ensures posting { IfOk result (λ x. (b : ℕ) × IsPosting list.now.stream.now list.now.summary.now b) }
     ensures read { IfOk result (λ x. locations.new.items ≡ decoded_list list.now.stream.now) }
     ensures fault { IfDamaged result (λ p. (documents : List DocRow) → IsListFault documents (stored_of list.now) p) }
@@ -99,7 +100,8 @@ fn tested(list: &StoredList<'_>, documents: &LevelRows) -> Result<Bounds, LevelF
     requires documents { AreDocuments documents.now }
     ensures reads { ReadsList documents.now (stored_of list.now) (decoded_list list.now.stream.now) result }
     ensures posting { IfOk result (λ bounds. IsPosting list.now.stream.now list.now.summary.now bounds.rows) }
-    ensures bounds { IfOk result (λ bounds. HasBounds (decoded_list list.now.stream.now) bounds.count bounds.first bounds.last) }
+    ensures bounds { IfOk result (λ bounds. HasBounds (decoded_list list.now.stream.now) bounds.count
+        bounds.first bounds.last) }
     ensures lean { result ≡ Err LevelFault.Memory → ⊥ }
 {
     let ends = is_end_term(list.term);
@@ -127,8 +129,10 @@ pub fn check_list(list: &StoredList<'_>, documents: &LevelRows) -> Result<Bounds
     requires documents { AreDocuments documents.now }
     ensures whole { IfOk result (λ x. IsListOf documents.now (stored_of list.now) (decoded_list list.now.stream.now)) }
     ensures posting { IfOk result (λ bounds. IsPosting list.now.stream.now list.now.summary.now bounds.rows) }
-    ensures bounds { IfOk result (λ bounds. HasBounds (decoded_list list.now.stream.now) bounds.count bounds.first bounds.last) }
-    ensures only { (locations : List ℕ) → IsListOf documents.now (stored_of list.now) locations → IsFound (λ x. decoded_list list.now.stream.now) result locations }
+    ensures bounds { IfOk result (λ bounds. HasBounds (decoded_list list.now.stream.now) bounds.count
+        bounds.first bounds.last) }
+    ensures only { (locations : List ℕ) → IsListOf documents.now (stored_of list.now) locations
+        → IsFound (λ x. decoded_list list.now.stream.now) result locations }
     ensures first { IfDamaged result (IsListFault documents.now (stored_of list.now)) }
     ensures broken { (p : ℕ) → IsListFault documents.now (stored_of list.now) p → IsDamaged result p }
     ensures lean { result ≡ Err LevelFault.Memory → ⊥ }
@@ -152,7 +156,8 @@ pub fn read_list(
     requires summary { list.now.summary_place + length list.now.summary.now < 2 ^ 64 }
     requires documents { AreDocuments documents.now }
     ensures found { IfOk result (λ x. IsListOf documents.now (stored_of list.now) locations.new.items) }
-    ensures only { (whole : List ℕ) → IsListOf documents.now (stored_of list.now) whole → IsFound (λ x. locations.new.items) result whole }
+    ensures only { (whole : List ℕ) → IsListOf documents.now (stored_of list.now) whole
+        → IsFound (λ x. locations.new.items) result whole }
     ensures first { IfDamaged result (IsListFault documents.now (stored_of list.now)) }
     ensures broken { (p : ℕ) → IsListFault documents.now (stored_of list.now) p → IsDamaged result p }
 {

@@ -56,9 +56,12 @@ fn first_other(table: &Summary<'_>, locations: &[Loc], places: &[u64]) -> Option
 /// summary's own, else the first row that is not the block of its number or is missing. The stream is not read.
 pub fn compare(summary: &[u8], locations: &[Loc], places: &[u64]) -> Result<(), PostingFault>
     requires { HasPlaces locations.now (length locations.now) places.now }
-    ensures coded { IfOk result (λ x. (stream : List ℕ) → Spells stream locations.now → IsCoded stream summary.now (decoded_list stream)) }
-    ensures posting { IfOk result (λ x. (stream : List ℕ) → Spells stream locations.now → (b : ℕ) × IsPosting stream summary.now b) }
-    ensures fault { IfErr result (λ fault. (stream : List ℕ) → Spells stream locations.now → IsPostingFault stream summary.now fault) }
+    ensures coded { IfOk result (λ x. (stream : List ℕ) → Spells stream locations.now
+        → IsCoded stream summary.now (decoded_list stream)) }
+    ensures posting { IfOk result (λ x. (stream : List ℕ) → Spells stream locations.now
+        → (b : ℕ) × IsPosting stream summary.now b) }
+    ensures fault { IfErr result (λ fault. (stream : List ℕ) → Spells stream locations.now
+        → IsPostingFault stream summary.now fault) }
 {
     match Summary::open(summary) {
         Ok(table) => match first_other(&table, locations, places) {

@@ -9,10 +9,14 @@ use alta_table::{tables_in_front, tables_read_back};
 
 /// Bytes are the segment of one content, or they have one first damage, and none have both.
 pub fn segments_read_back()
-    ensures once { (bytes : List ℕ) → (c d : Content) → AreBytes bytes → length bytes < 2 ^ 64 → IsSegment bytes c → IsSegment bytes d → c ≡ d }
-    ensures either { (bytes : List ℕ) → (place : ℕ) → AreBytes bytes → length bytes < 2 ^ 64 → ((c : Content) × IsSegment bytes c) ⊎ ((p : ℕ) × IsSegmentFault bytes place p) }
-    ensures apart { (bytes : List ℕ) → (place p : ℕ) → (c : Content) → AreBytes bytes → length bytes < 2 ^ 64 → IsSegment bytes c → IsSegmentFault bytes place p → ⊥ }
-    ensures first { (bytes : List ℕ) → (place p q : ℕ) → AreBytes bytes → length bytes < 2 ^ 64 → IsSegmentFault bytes place p → IsSegmentFault bytes place q → p ≡ q }
+    ensures once { (bytes : List ℕ) → (c d : Content) → AreBytes bytes → length bytes < 2 ^ 64 → IsSegment bytes c
+        → IsSegment bytes d → c ≡ d }
+    ensures either { (bytes : List ℕ) → (place : ℕ) → AreBytes bytes → length bytes < 2 ^ 64
+        → ((c : Content) × IsSegment bytes c) ⊎ ((p : ℕ) × IsSegmentFault bytes place p) }
+    ensures apart { (bytes : List ℕ) → (place p : ℕ) → (c : Content) → AreBytes bytes → length bytes < 2 ^ 64
+        → IsSegment bytes c → IsSegmentFault bytes place p → ⊥ }
+    ensures first { (bytes : List ℕ) → (place p q : ℕ) → AreBytes bytes → length bytes < 2 ^ 64
+        → IsSegmentFault bytes place p → IsSegmentFault bytes place q → p ≡ q }
 {
     tables_read_back();
     tables_in_front();

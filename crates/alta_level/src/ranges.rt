@@ -33,9 +33,11 @@ pub fn holder(runs: &Runs, from: usize, location: Loc) -> Option<usize>
     requires rise { RunsRise runs.now.firsts.items runs.now.ends.items }
     requires within { from ≤ length runs.now.ends.items }
     requires passed { (i : ℕ) → i < from → slice_index runs.now.ends.items i < location }
-    ensures held { MatchOption result (IsInRun runs.now.firsts.items runs.now.ends.items location → ⊥) (λ run. IsInRun runs.now.firsts.items runs.now.ends.items location) }
+    ensures held { MatchOption result (IsInRun runs.now.firsts.items runs.now.ends.items location
+        → ⊥) (λ run. IsInRun runs.now.firsts.items runs.now.ends.items location) }
     ensures within { MatchOption result (Unit {0}) (λ run. run < length runs.now.ends.items) }
-    ensures passed { MatchOption result (Unit {0}) (λ run. (i : ℕ) → i < run → slice_index runs.now.ends.items i < location) }
+    ensures passed { MatchOption result (Unit {0}) (λ run. (i : ℕ) → i < run
+        → slice_index runs.now.ends.items i < location) }
 {
     let run = end_from(&runs.ends, from, location);
     if run == runs.ends.len() {
@@ -52,8 +54,10 @@ pub fn ranges_from(runs: &Runs, from: usize, locations: &[Loc]) -> Option<usize>
     requires rise { RunsRise runs.now.firsts.items runs.now.ends.items }
     requires within { from ≤ length runs.now.ends.items }
     requires rising { IsRising locations.now }
-    requires passed { (i k : ℕ) → i < from → k < length locations.now → slice_index runs.now.ends.items i < slice_index locations.now k }
-    ensures { MatchOption result (HasOutside runs.now.firsts.items runs.now.ends.items locations.now) (AreInRunsTo runs.now.firsts.items runs.now.ends.items locations.now) }
+    requires passed { (i k : ℕ) → i < from → k < length locations.now
+        → slice_index runs.now.ends.items i < slice_index locations.now k }
+    ensures { MatchOption result (HasOutside runs.now.firsts.items runs.now.ends.items locations.now)
+        (AreInRunsTo runs.now.firsts.items runs.now.ends.items locations.now) }
 {
     let mut run = from;
     for location in locations {
@@ -69,7 +73,8 @@ pub fn ranges_from(runs: &Runs, from: usize, locations: &[Loc]) -> Option<usize>
 fn ends_from(documents: &LevelRows, from: usize, locations: &[Loc]) -> Option<usize>
     requires apart { AreApart documents.now }
     requires within { from ≤ length documents.now }
-    ensures { MatchOption result (HasOther documents.now from locations.now) (AreEndsTo documents.now from locations.now) }
+    ensures { MatchOption result (HasOther documents.now from locations.now)
+        (AreEndsTo documents.now from locations.now) }
 {
     let ends = documents.ends();
     if locations.len() > ends.len() - from {
@@ -89,7 +94,8 @@ pub fn ends_after(documents: &LevelRows, row: Option<usize>, locations: &[Loc]) 
     requires apart { AreApart documents.now }
     requires within { IfSome row (λ from. from ≤ length documents.now) }
     ensures none { row ≡ None → result ≡ None }
-    ensures ends { IfSome row (λ from. MatchOption result (HasOther documents.now from locations.now) (AreEndsTo documents.now from locations.now)) }
+    ensures ends { IfSome row (λ from. MatchOption result (HasOther documents.now from locations.now)
+        (AreEndsTo documents.now from locations.now)) }
 {
     let Some(from) = row else {
         return None;

@@ -79,7 +79,8 @@ fn put_list(
     requires stream { list.now.stream_place + length list.now.stream.now < 2 ^ 64 }
     requires summary { list.now.summary_place + length list.now.summary.now < 2 ^ 64 }
     requires documents { AreDocuments documents.now }
-    ensures put { IfOk result (λ x. lists.new ≡ lists.old ++ (record { term = list.now.term.now; locations = locations.new.items }) ∷ []) }
+    ensures put { IfOk result (λ x. lists.new
+        ≡ lists.old ++ (record { term = list.now.term.now; locations = locations.new.items }) ∷ []) }
     ensures reads { ReadsList documents.now (stored_of list.now) locations.new.items result }
 {
     match read_list(locations, places, list, documents) {

@@ -58,7 +58,8 @@ fn walk_ends(
 // Reads a stream block by block, beside the rows of its summary and the runs of documents.
 fn walk_runs(stream: &[u8], table: &Summary<'_>, runs: &Runs) -> Result<Walked, PostingFault>
     requires { RunsRise runs.now.firsts.items runs.now.ends.items }
-    ensures { Walks stream.now table.now.bytes (AreInRuns runs.now.firsts.items runs.now.ends.items (decoded_list stream.now)) result }
+    ensures { Walks stream.now table.now.bytes
+        (AreInRuns runs.now.firsts.items runs.now.ends.items (decoded_list stream.now)) result }
 {
     let mut read = Compared::none();
     let mut run = Some(0);
@@ -120,7 +121,8 @@ fn walk_list(
 fn are_within(documents: &LevelRows, bounds: &Bounds) -> bool
     requires documents { AreDocuments documents.now }
     requires joined { AreJoined documents.now }
-    ensures { (list : List ℕ) → IsRising list → HasBounds list bounds.now.count bounds.now.first bounds.now.last → IsTrue result ↔ AreFitting documents.now false list }
+    ensures { (list : List ℕ) → IsRising list → HasBounds list bounds.now.count bounds.now.first bounds.now.last
+        → IsTrue result ↔ AreFitting documents.now false list }
 {
     if bounds.count == 0 {
         return true;

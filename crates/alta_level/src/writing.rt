@@ -54,7 +54,8 @@ fn put_summary(
     list: PackedList<'_>,
 ) -> Result<(), AllocError>
     requires { (locations : List ℕ) × IsRising locations × AreGaps list.gaps.now list.count locations }
-    ensures { (locations : List ℕ) → IsRising locations → AreGaps list.entry.gaps.now list.entry.count locations → OnOk result (out.new.items ≡ out.old.items ++ summary_bytes locations) }
+    ensures { (locations : List ℕ) → IsRising locations → AreGaps list.entry.gaps.now list.entry.count locations
+        → OnOk result (out.new.items ≡ out.old.items ++ summary_bytes locations) }
 {
     if list.count <= 64 {
         return Ok(());
@@ -76,8 +77,11 @@ pub fn put_list(
     requires { (locations : List ℕ) × IsRising locations × AreGaps list.gaps.now list.count locations }
     ensures bytes { (locations : List ℕ) → IsRising locations → AreGaps list.entry.gaps.now list.entry.count locations
         → OnOk result (out.new.items ≡ out.old.items ++ stream_bytes 0 locations ++ summary_bytes locations) }
-    ensures stream { (locations : List ℕ) → IsRising locations → AreGaps list.entry.gaps.now list.entry.count locations → IfOk result (λ size. size.stream ≡ length (stream_bytes 0 locations)) }
-    ensures summary { (locations : List ℕ) → IsRising locations → AreGaps list.entry.gaps.now list.entry.count locations → IfOk result (λ size. size.summary ≡ length (summary_bytes locations)) }
+    ensures stream { (locations : List ℕ) → IsRising locations → AreGaps list.entry.gaps.now list.entry.count locations
+        → IfOk result (λ size. size.stream ≡ length (stream_bytes 0 locations)) }
+    ensures summary { (locations : List ℕ) → IsRising locations
+        → AreGaps list.entry.gaps.now list.entry.count locations
+        → IfOk result (λ size. size.summary ≡ length (summary_bytes locations)) }
 {
     out.extend_from_slice(list.gaps)?;
     let behind = out.len();

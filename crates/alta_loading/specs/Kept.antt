@@ -18,19 +18,22 @@ pub record IsTestedList (tells : Type 0) (image : List ℕ) (load : Load) (list 
 
 -- a list that is kept is that of its row in this level
 abbrev pub IsTestedIn : Type 0 → List ℕ → Tables → KeptList → Type 0
-IsTestedIn tells image level list = IsTestedList tells image (record { number = list.number; level = level; row = list.row }) list.posting.value
+IsTestedIn tells image level list = IsTestedList tells image
+    (record { number = list.number; level = level; row = list.row }) list.posting.value
 
 -- ---- what is kept
 
 -- those that are kept of the level with this number are lists of its rows
 abbrev pub AreTestedIn : Type 0 → List ℕ → ℕ → Tables → KeptLists → Type 0
-AreTestedIn tells image number level kept = All (λ (list : KeptList). list.number ≡ number → IsTestedIn tells image level list) kept.lists.items
+AreTestedIn tells image number level kept =
+    All (λ (list : KeptList). list.number ≡ number → IsTestedIn tells image level list) kept.lists.items
 
 -- What is known of the lists of these levels holds: the lists of all ends are whole where they were tested, and those that are kept are lists of
 -- their rows.
 pub record AreKept (tells : Type 0) (image : List ℕ) (levels : List Tables) (kept : KeptLists) : Type 0 where
   pub ends : tells → AreEndsWhole kept.ends image levels
-  pub lists : (number : ℕ) (level : Tables) → slice_get levels number ≡ Some level → AreTestedIn tells image number level kept
+  pub lists : (number : ℕ) (level : Tables) → slice_get levels number ≡ Some level
+      → AreTestedIn tells image number level kept
 
 -- Nothing is known.
 pub record IsNoneKept (kept : KeptLists) : Type 0 where
@@ -55,9 +58,12 @@ pub record HasKept (kept : KeptLists) (number row : ℕ) (posting : List ℕ) : 
 -- What is kept now was kept before, or is this list of this row.
 pub record KeepsAlso (number row : ℕ) (posting : List ℕ) (old new : KeptLists) : Type 0 where
   pub ends : new.ends ≡ old.ends
-  pub lists : All (λ (list : KeptList). Contains old.lists.items list ⊎ IsListOfRow number row posting list) new.lists.items
+  pub lists : All (λ (list : KeptList). Contains old.lists.items list
+      ⊎ IsListOfRow number row posting list) new.lists.items
 
 -- What is kept now was kept before, or is a list of this level.
-pub record KeepsTested (tells : Type 0) (image : List ℕ) (number : ℕ) (level : Tables) (old new : KeptLists) : Type 0 where
+pub record KeepsTested (tells : Type 0) (image : List ℕ) (number : ℕ) (level : Tables)
+    (old new : KeptLists) : Type 0 where
   pub ends : new.ends ≡ old.ends
-  pub lists : All (λ (list : KeptList). Contains old.lists.items list ⊎ ((list.number ≡ number) × IsTestedIn tells image level list)) new.lists.items
+  pub lists : All (λ (list : KeptList). Contains old.lists.items list
+      ⊎ ((list.number ≡ number) × IsTestedIn tells image level list)) new.lists.items

@@ -33,7 +33,8 @@ stored_as level row stream summary = record {
 
 -- the list of a row, as it stands on the image
 abbrev pub stored_in : Tables → ℕ → List ℕ → Stored
-stored_in level row image = stored_as level row (part (stream_place level row) (stream_size level row) image) (part (stream_place level row + stream_size level row) (summary_size level row) image)
+stored_in level row image = stored_as level row (part (stream_place level row) (stream_size level row) image)
+    (part (stream_place level row + stream_size level row) (summary_size level row) image)
 
 -- ---- in memory
 
@@ -41,4 +42,5 @@ stored_in level row image = stored_as level row (part (stream_place level row) (
 pub record KeepsRow (level : Tables) (row : ℕ) (list : List ℕ) : Type 0 where
   pub some : 0 < length list
   pub rising : IsRising list
-  pub fits : Fits level.documents (slice_index_or (terms_of level.terms) row []) (slice_index (counts_of level.terms) row) list
+  pub fits : Fits level.documents (slice_index_or (terms_of level.terms) row [])
+      (slice_index (counts_of level.terms) row) list

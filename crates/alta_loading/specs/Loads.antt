@@ -57,7 +57,8 @@ IsWhole image load = IsListOf load.level.documents (stored_by image load) (list_
 -- the first fault of the first list that is not whole
 abbrev pub IsFirstFault : List ℕ → List Load → ℕ → Type 0
 IsFirstFault image [] p = ⊥
-IsFirstFault image (load ∷ loads) p = IsListFault load.level.documents (stored_by image load) p ⊎ (IsWhole image load × IsFirstFault image loads p)
+IsFirstFault image (load ∷ loads) p = IsListFault load.level.documents (stored_by image load) p
+    ⊎ (IsWhole image load × IsFirstFault image loads p)
 
 -- Unless the disk failed or memory ran out, the call answered Ok exactly where all these lists are whole, and else damage at the first fault.
 pub record Tells {X : Type 0} (image : List ℕ) (loads : List Load) (result : Result X LoadFault) : Type 0 where
@@ -85,6 +86,7 @@ KeepRows (load ∷ loads) (list ∷ lists) = KeepsRow load.level load.row list �
 -- ---- a call that loads
 
 -- It reads no more than these lists have, and tells which of them are whole.
-pub record ReadsLists {X : Type 0} (tells : Type 0) (loads : List Load) (old new : DiskState) (result : Result X LoadFault) : Type 0 where
+pub record ReadsLists {X : Type 0} (tells : Type 0) (loads : List Load) (old new : DiskState)
+    (result : Result X LoadFault) : Type 0 where
   pub retrieves : Retrieves tells (load_sizes loads) old new result
   pub told : tells → Tells old.content loads result

@@ -59,7 +59,8 @@ loads_of_tests levels newest tests = flat_map (loads_met levels newest) tests
 -- the tests that are none of those before, each once, in the order in which they first come
 abbrev pub first_uses : List Test → List Test → List Test
 first_uses before [] = []
-first_uses before (test ∷ tests) = if list_any (same_test test) before then first_uses before tests else test ∷ first_uses (test ∷ before) tests
+first_uses before (test ∷ tests) = if list_any (same_test test) before then first_uses before tests
+    else test ∷ first_uses (test ∷ before) tests
 
 abbrev pub each_once : List Test → List Test
 each_once tests = first_uses [] tests

@@ -18,11 +18,16 @@ number_if_some number (x ∷ xs) = number ∷ []
 
 -- the term, and the numbers of the levels that have it; the newest documents are numbered behind the levels
 abbrev pub term_key : List Tables → Content → List ℕ → TermKey
-term_key levels newest term = record { term = term; levels = map number_of (loads_from 0 levels term) ++ number_if_some (length levels) (locations_of newest.lists term) }
+term_key levels newest term = record {
+  term = term;
+  levels = map number_of (loads_from 0 levels term)
+      ++ number_if_some (length levels) (locations_of newest.lists term);
+}
 
 -- its lists, as they stand on the image and in the newest documents
 abbrev pub lists_of_term : List Tables → Content → List ℕ → List ℕ → List (List ℕ)
-lists_of_term levels newest image term = map (list_at image) (loads_from 0 levels term) ++ if_some (locations_of newest.lists term)
+lists_of_term levels newest image term = map (list_at image) (loads_from 0 levels term)
+    ++ if_some (locations_of newest.lists term)
 
 -- These are the lists of the term, and each of a level keeps what its row and its documents say, whatever the disk tells.
 pub record KeepTerm (levels : List Tables) (newest : Content) (term : List ℕ) (lists : List (List ℕ)) : Type 0 where
@@ -41,4 +46,5 @@ abbrev pub KeepTerms : List Tables → Content → List (List ℕ) → List (Lis
 KeepTerms levels newest [] [] = Unit {0}
 KeepTerms levels newest [] (list ∷ lists) = ⊥
 KeepTerms levels newest (term ∷ terms) [] = ⊥
-KeepTerms levels newest (term ∷ terms) (list ∷ lists) = KeepTerm levels newest term list × KeepTerms levels newest terms lists
+KeepTerms levels newest (term ∷ terms) (list ∷ lists) = KeepTerm levels newest term list
+    × KeepTerms levels newest terms lists

@@ -36,16 +36,22 @@ pub fn load_list<D: Disk>(
     requires row { row.now.row < length table.now.terms }
     requires within { D.tells → LiesWithin table.now (D.state disk.old).content }
     // What is loaded is the list that stands there, and if there is one it is loaded.
-    ensures list { D.tells → IfOk result (λ posting. IsListOf table.now.documents (stored_in table.now row.now.row (D.state disk.old).content) posting) }
-    ensures only { D.tells → (list : List ℕ) → IsListOf table.now.documents (stored_in table.now row.now.row (D.state disk.old).content) list → IsFound (λ posting. posting) result list }
+    ensures list { D.tells → IfOk result (λ posting. IsListOf table.now.documents
+        (stored_in table.now row.now.row (D.state disk.old).content) posting) }
+    ensures only { D.tells → (list : List ℕ)
+        → IsListOf table.now.documents (stored_in table.now row.now.row (D.state disk.old).content) list
+        → IsFound (λ posting. posting) result list }
     // The damage is the first of the list, and if there is one that is the answer.
-    ensures first { D.tells → IfDamaged result (IsListFault table.now.documents (stored_in table.now row.now.row (D.state disk.old).content)) }
-    ensures damaged { D.tells → (p : ℕ) → IsListFault table.now.documents (stored_in table.now row.now.row (D.state disk.old).content) p → IsDamaged result p }
+    ensures first { D.tells → IfDamaged result
+        (IsListFault table.now.documents (stored_in table.now row.now.row (D.state disk.old).content)) }
+    ensures damaged { D.tells → (p : ℕ) → IsListFault table.now.documents
+        (stored_in table.now row.now.row (D.state disk.old).content) p → IsDamaged result p }
     // It is a damage of the level.
     ensures broken { D.tells → IfDamaged result (IsBrokenIn table.now (D.state disk.old).content) }
     // Whatever the disk tells, what is loaded keeps what its row and the documents say.
     ensures kept { IfOk result (λ posting. KeepsRow table.now row.now.row posting) }
-    ensures retrieves { Retrieves D.tells (stream_size table.now row.now.row + summary_size table.now row.now.row) (D.state disk.old) (D.state disk.new) result }
+    ensures retrieves { Retrieves D.tells (stream_size table.now row.now.row + summary_size table.now row.now.row)
+        (D.state disk.old) (D.state disk.new) result }
 {
     let (stream, summary) = read_bytes(alloc, disk, table, row)?;
     checked(table, row, stream, summary)
@@ -72,11 +78,15 @@ fn read_bytes<D: Disk>(
     requires row { row.now.row < length table.now.terms }
     requires tables { row.now.tables ≡ table.now }
     requires within { D.tells → LiesWithin table.now (D.state disk.old).content }
-    ensures stored { D.tells → IfOk result (λ x. stored_as table.now row.now.row x.0.items x.1.items ≡ stored_in table.now row.now.row (D.state disk.old).content) }
-    ensures sizes { IfOk result (λ x. (length x.0.items ≡ stream_size table.now row.now.row) × (length x.1.items ≡ summary_size table.now row.now.row)) }
-    ensures below { IfOk result (λ x. stream_place table.now row.now.row + stream_size table.now row.now.row + summary_size table.now row.now.row < 2 ^ 64) }
+    ensures stored { D.tells → IfOk result (λ x. stored_as table.now row.now.row x.0.items x.1.items
+        ≡ stored_in table.now row.now.row (D.state disk.old).content) }
+    ensures sizes { IfOk result (λ x. (length x.0.items ≡ stream_size table.now row.now.row)
+        × (length x.1.items ≡ summary_size table.now row.now.row)) }
+    ensures below { IfOk result (λ x. stream_place table.now row.now.row + stream_size table.now row.now.row
+        + summary_size table.now row.now.row < 2 ^ 64) }
     ensures undamaged { IfDamaged result (λ p. ⊥) }
-    ensures retrieves { Retrieves D.tells (stream_size table.now row.now.row + summary_size table.now row.now.row) (D.state disk.old) (D.state disk.new) result }
+    ensures retrieves { Retrieves D.tells (stream_size table.now row.now.row + summary_size table.now row.now.row)
+        (D.state disk.old) (D.state disk.new) result }
 {
     let (stream, summary) = places(table, row);
     // A level lies within its disk, so there is always such an end.
@@ -97,12 +107,18 @@ fn checked(
 ) -> Result<Posting, LoadFault>
     requires row { row.now.row < length table.now.terms }
     requires tables { row.now.tables ≡ table.now }
-    requires sizes { (length stream.items ≡ stream_size table.now row.now.row) × (length summary.items ≡ summary_size table.now row.now.row) }
-    requires below { stream_place table.now row.now.row + stream_size table.now row.now.row + summary_size table.now row.now.row < 2 ^ 64 }
-    ensures list { IfOk result (λ posting. IsListOf table.now.documents (stored_as table.now row.now.row stream.items summary.items) posting) }
-    ensures first { IfDamaged result (IsListFault table.now.documents (stored_as table.now row.now.row stream.items summary.items)) }
-    ensures only { (list : List ℕ) → IsListOf table.now.documents (stored_as table.now row.now.row stream.items summary.items) list → IsFound (λ posting. posting) result list }
-    ensures damaged { (p : ℕ) → IsListFault table.now.documents (stored_as table.now row.now.row stream.items summary.items) p → IsDamaged result p }
+    requires sizes { (length stream.items ≡ stream_size table.now row.now.row)
+        × (length summary.items ≡ summary_size table.now row.now.row) }
+    requires below { stream_place table.now row.now.row + stream_size table.now row.now.row
+        + summary_size table.now row.now.row < 2 ^ 64 }
+    ensures list { IfOk result (λ posting. IsListOf table.now.documents
+        (stored_as table.now row.now.row stream.items summary.items) posting) }
+    ensures first { IfDamaged result (IsListFault table.now.documents
+        (stored_as table.now row.now.row stream.items summary.items)) }
+    ensures only { (list : List ℕ) → IsListOf table.now.documents
+        (stored_as table.now row.now.row stream.items summary.items) list → IsFound (λ posting. posting) result list }
+    ensures damaged { (p : ℕ) → IsListFault table.now.documents
+        (stored_as table.now row.now.row stream.items summary.items) p → IsDamaged result p }
     ensures some { IfOk result (λ posting. 0 < length posting) }
     ensures lean { result ≡ Err DiskFault → ⊥ }
 {

@@ -39,11 +39,13 @@ pub fn load_test<D: Disk>(
     requires rise { RowsPrecede (all_rows levels.now newest.now.content) }
     ensures test { IfOk result (λ loaded. test_in loaded ≡ test) }
     ensures keys { IfOk result (λ loaded. test_keys loaded ≡ keys_met levels.now newest.now.content test) }
-    ensures lists { D.tells → IfOk result (λ loaded. test_lists loaded ≡ lists_met levels.now newest.now.content (D.state disk.old).content test) }
+    ensures lists { D.tells → IfOk result (λ loaded. test_lists loaded
+        ≡ lists_met levels.now newest.now.content (D.state disk.old).content test) }
     // Whatever the disk tells, the lists of a term rise one behind the other, and none is empty.
     ensures cut { IfOk result (λ loaded. IsCut (test_lists loaded)) }
     ensures known { AreKept D.tells (D.state disk.old).content levels.now kept.new }
-    ensures loads { ReadsLists D.tells (loads_met levels.now newest.now.content test) (D.state disk.old) (D.state disk.new) result }
+    ensures loads { ReadsLists D.tells (loads_met levels.now newest.now.content test) (D.state disk.old)
+        (D.state disk.new) result }
 {
     let met = terms_met(alloc, levels, newest, &test)?;
     match load_terms(alloc, disk, levels, kept, newest, met) {
@@ -70,11 +72,14 @@ pub fn load_tests<D: Disk>(
     requires newest { HasAdded newest.now }
     requires rise { RowsPrecede (all_rows levels.now newest.now.content) }
     ensures tests { IfOk result (λ tests. map test_in tests.items ≡ order.items) }
-    ensures keys { IfOk result (λ tests. map test_keys tests.items ≡ map (keys_met levels.now newest.now.content) order.items) }
-    ensures lists { D.tells → IfOk result (λ tests. map test_lists tests.items ≡ map (lists_met levels.now newest.now.content (D.state disk.old).content) order.items) }
+    ensures keys { IfOk result (λ tests. map test_keys tests.items
+        ≡ map (keys_met levels.now newest.now.content) order.items) }
+    ensures lists { D.tells → IfOk result (λ tests. map test_lists tests.items
+        ≡ map (lists_met levels.now newest.now.content (D.state disk.old).content) order.items) }
     ensures cut { IfOk result (λ tests. All IsCut (map test_lists tests.items)) }
     ensures known { AreKept D.tells (D.state disk.old).content levels.now kept.new }
-    ensures loads { ReadsLists D.tells (loads_of_tests levels.now newest.now.content order.items) (D.state disk.old) (D.state disk.new) result }
+    ensures loads { ReadsLists D.tells (loads_of_tests levels.now newest.now.content order.items) (D.state disk.old)
+        (D.state disk.new) result }
 {
     let mut tests = Vec::with_capacity(alloc, order.len())?;
     for test in order {

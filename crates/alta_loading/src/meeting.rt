@@ -102,7 +102,9 @@ fn gather(
     start: &Bytes,
 ) -> Result<Vec<Bytes>, AllocError>
     requires { HasAdded newest.now }
-    ensures { IfOk result (λ all. all.items ≡ filter (term_meets (Test.Begins start.now)) (terms_of newest.now.content.lists) ++ flat_map (level_terms_met (Test.Begins start.now)) levels.now) }
+    ensures { IfOk result (λ all. all.items
+        ≡ filter (term_meets (Test.Begins start.now)) (terms_of newest.now.content.lists)
+        ++ flat_map (level_terms_met (Test.Begins start.now)) levels.now) }
 {
     let mut all = newest.prefixed(start.as_slice())?;
     for level in levels {

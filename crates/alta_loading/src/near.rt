@@ -54,7 +54,8 @@ impl<'a> Near<'a> {
     pub fn find(&mut self, term: &[u8]) -> Option<TermCursor<'a>>
         ensures level { self.new ≡ self.old }
         ensures tables { IfSome result (λ c. c.tables ≡ self.old) }
-        ensures row { MatchOption (row_at result) ((i : ℕ) → slice_get (level_terms self.old) i ≡ Some term.now → ⊥) (λ i. slice_get (level_terms self.old) i ≡ Some term.now) }
+        ensures row { MatchOption (row_at result) ((i : ℕ) → slice_get (level_terms self.old) i ≡ Some term.now
+            → ⊥) (λ i. slice_get (level_terms self.old) i ≡ Some term.now) }
     {
         // This call tells that the terms rise.
         let _documents = self.level.documents();
@@ -76,7 +77,8 @@ impl<'a> Near<'a> {
     fn find_anew(&mut self, term: &[u8]) -> Option<TermCursor<'a>>
         ensures level { self.new ≡ self.old }
         ensures tables { IfSome result (λ c. c.tables ≡ self.old) }
-        ensures row { MatchOption (row_at result) ((i : ℕ) → slice_get (level_terms self.old) i ≡ Some term.now → ⊥) (λ i. slice_get (level_terms self.old) i ≡ Some term.now) }
+        ensures row { MatchOption (row_at result) ((i : ℕ) → slice_get (level_terms self.old) i ≡ Some term.now
+            → ⊥) (λ i. slice_get (level_terms self.old) i ≡ Some term.now) }
     {
         match self.level.look_up(term) {
             Some(found) => {

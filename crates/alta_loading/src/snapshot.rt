@@ -68,25 +68,34 @@ pub fn load_ordered<D: Disk>(
     requires rows { rows ≡ all_rows levels.now newest.now.content }
     requires gone { IsRising gone.now }
     ensures tests { IfOk result (λ snapshot. snapshot.tests ≡ used order) }
-    ensures view { D.tells → IfOk result (λ snapshot. snapshot ≡ loaded_view levels.now newest.now.content (D.state disk.old).content (used order) gone.now) }
+    ensures view { D.tells → IfOk result (λ snapshot. snapshot
+        ≡ loaded_view levels.now newest.now.content (D.state disk.old).content (used order) gone.now) }
     // Levels that are the segments of contents are never damaged.
     ensures undamaged { D.tells → (contents : List Level) → levels.now ≡ map tables_by contents
-        → All (λ level. IsSegment (bytes_at level.extent (D.state disk.old).content) level.content) contents → IfDamaged result (λ place. ⊥) }
+        → All (λ level. IsSegment (bytes_at level.extent (D.state disk.old).content) level.content) contents
+        → IfDamaged result (λ place. ⊥) }
     // Over them the answers of any query are the documents of the levels and the newest ones that match and are not deleted,
-    ensures answers { D.tells → IfOk result (λ snapshot. (contents : List Level) → (behind : List Document) → (q : Shape) → levels.now ≡ map tables_by contents
-        → All (λ level. IsSegment (bytes_at level.extent (D.state disk.old).content) level.content) contents → HasDocuments gone.now behind newest.now
+    ensures answers { D.tells → IfOk result (λ snapshot. (contents : List Level) → (behind : List Document)
+        → (q : Shape) → levels.now ≡ map tables_by contents
+        → All (λ level. IsSegment (bytes_at level.extent (D.state disk.old).content) level.content) contents
+        → HasDocuments gone.now behind newest.now
         → AreToCome (plan_of q) snapshot 0 (answers (flat_map (documents_of gone.now) contents ++ behind) q)) }
     // also where they are ranked.
-    ensures ranked { D.tells → IfOk result (λ snapshot. (contents : List Level) → (behind : List Document) → (q : Shape) → levels.now ≡ map tables_by contents
-        → All (λ level. IsSegment (bytes_at level.extent (D.state disk.old).content) level.content) contents → HasDocuments gone.now behind newest.now
+    ensures ranked { D.tells → IfOk result (λ snapshot. (contents : List Level) → (behind : List Document)
+        → (q : Shape) → levels.now ≡ map tables_by contents
+        → All (λ level. IsSegment (bytes_at level.extent (D.state disk.old).content) level.content) contents
+        → HasDocuments gone.now behind newest.now
         → AreToRank (plan_of q) snapshot (answers (flat_map (documents_of gone.now) contents ++ behind) q)) }
     // The snapshot shows these documents with the terms of their cells.
-    ensures shown { D.tells → IfOk result (λ snapshot. (contents : List Level) → (behind : List Document) → levels.now ≡ map tables_by contents
-        → All (λ level. IsSegment (bytes_at level.extent (D.state disk.old).content) level.content) contents → HasDocuments gone.now behind newest.now
+    ensures shown { D.tells → IfOk result (λ snapshot. (contents : List Level) → (behind : List Document)
+        → levels.now ≡ map tables_by contents
+        → All (λ level. IsSegment (bytes_at level.extent (D.state disk.old).content) level.content) contents
+        → HasDocuments gone.now behind newest.now
         → ShowsDocuments snapshot (flat_map (documents_of gone.now) contents ++ behind)) }
     ensures known { AreKept D.tells (D.state disk.old).content levels.now kept.new }
     ensures tested { (more : List Test) → used order ≡ document_end ∷ more → OnOk result (kept.new.ends ≡ Ends.Tested) }
-    ensures loads { ReadsLists D.tells (loads_of_tests levels.now newest.now.content (each_once (used order))) (D.state disk.old) (D.state disk.new) result }
+    ensures loads { ReadsLists D.tells (loads_of_tests levels.now newest.now.content (each_once (used order)))
+        (D.state disk.old) (D.state disk.new) result }
 {
     levels_and_newest_documents_answer();
     levels_and_newest_documents_are_ranked();

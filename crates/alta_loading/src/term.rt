@@ -52,7 +52,8 @@ pub(crate) fn load_term<'a, D: Disk>(
     requires nears { AreNear levels.now nears.old }
     ensures nears { nears.new ≡ nears.old }
     ensures key { IfOk result (λ lists. key_of lists ≡ term_key levels.now newest.now.content term) }
-    ensures lists { D.tells → IfOk result (λ lists. term_lists lists ≡ lists_of_term levels.now newest.now.content (D.state disk.old).content term) }
+    ensures lists { D.tells → IfOk result (λ lists. term_lists lists
+        ≡ lists_of_term levels.now newest.now.content (D.state disk.old).content term) }
     ensures kept { IfOk result (λ lists. KeepTerm levels.now newest.now.content term (term_lists lists)) }
     ensures known { AreKept D.tells (D.state disk.new).content levels.now kept.new }
     ensures loads { ReadsLists D.tells (loads_from 0 levels.now term) (D.state disk.old) (D.state disk.new) result }
@@ -74,7 +75,8 @@ fn with_newest(
     number: u64,
     list: &[Loc],
 ) -> Result<Vec<LevelList>, AllocError>
-    ensures numbers { IfOk result (λ all. map level_in all.items ≡ map level_in coded.items ++ number_if_some number list.now) }
+    ensures numbers { IfOk result (λ all. map level_in all.items ≡ map level_in coded.items
+        ++ number_if_some number list.now) }
     ensures lists { IfOk result (λ all. map level_list all.items ≡ map level_list coded.items ++ if_some list.now) }
 {
     if list.is_empty() {
@@ -103,9 +105,11 @@ fn load_coded<'a, D: Disk>(
     requires nears { AreNear levels.now nears.old }
     ensures nears { nears.new ≡ nears.old }
     // One list for each level that has the term.
-    ensures numbers { IfOk result (λ lists. map level_in lists.items ≡ map number_of (loads_from 0 levels.now term.now)) }
+    ensures numbers { IfOk result (λ lists. map level_in lists.items
+        ≡ map number_of (loads_from 0 levels.now term.now)) }
     // They are what stands on the disk.
-    ensures lists { D.tells → IfOk result (λ lists. map level_list lists.items ≡ map (list_at (D.state disk.old).content) (loads_from 0 levels.now term.now)) }
+    ensures lists { D.tells → IfOk result (λ lists. map level_list lists.items
+        ≡ map (list_at (D.state disk.old).content) (loads_from 0 levels.now term.now)) }
     // Whatever the disk tells, they keep what their rows and documents say.
     ensures kept { IfOk result (λ lists. KeepRows (loads_from 0 levels.now term.now) (map level_list lists.items)) }
     ensures known { AreKept D.tells (D.state disk.new).content levels.now kept.new }
@@ -146,11 +150,16 @@ fn load_next<'a, D: Disk>(
     requires tested { AreTestedIn D.tells (D.state disk.old).content number level.now kept.old }
     requires nears { IsNearAt level.now number nears.old }
     ensures nears { nears.new ≡ nears.old }
-    ensures numbers { OnOk result (map level_in lists.new.items ≡ map level_in lists.old.items ++ map number_of (load_in number level.now term.now)) }
-    ensures lists { D.tells → OnOk result (map level_list lists.new.items ≡ map level_list lists.old.items ++ map (list_at (D.state disk.old).content) (load_in number level.now term.now)) }
-    ensures kept { OnOk result ((before : List Load) → KeepRows before (map level_list lists.old.items) → KeepRows (before ++ load_in number level.now term.now) (map level_list lists.new.items)) }
+    ensures numbers { OnOk result (map level_in lists.new.items ≡ map level_in lists.old.items
+        ++ map number_of (load_in number level.now term.now)) }
+    ensures lists { D.tells → OnOk result (map level_list lists.new.items
+        ≡ map level_list lists.old.items ++ map (list_at (D.state disk.old).content)
+        (load_in number level.now term.now)) }
+    ensures kept { OnOk result ((before : List Load) → KeepRows before (map level_list lists.old.items)
+        → KeepRows (before ++ load_in number level.now term.now) (map level_list lists.new.items)) }
     ensures keeps { KeepsTested D.tells (D.state disk.old).content number level.now kept.old kept.new }
-    ensures loads { ReadsLists D.tells (load_in number level.now term.now) (D.state disk.old) (D.state disk.new) result }
+    ensures loads { ReadsLists D.tells (load_in number level.now term.now) (D.state disk.old)
+        (D.state disk.new) result }
 {
     match row_of(level, term, number, nears) {
         None => Ok(()),
@@ -176,7 +185,8 @@ fn row_of<'a>(
     ensures tables { IfSome result (λ c. c.tables ≡ level.now) }
     ensures row { row_at result ≡ row_from 0 level.now.terms term.now }
     ensures within { MatchOption (row_at result) (Unit {0}) (λ row. row < length level.now.terms) }
-    ensures term { MatchOption (row_at result) (Unit {0}) (λ row. slice_get (level_terms level.now) row ≡ Some term.now) }
+    ensures term { MatchOption (row_at result) (Unit {0})
+        (λ row. slice_get (level_terms level.now) row ≡ Some term.now) }
 {
     // This call tells that the terms rise.
     let _documents = level.documents();
@@ -191,7 +201,8 @@ fn row_of<'a>(
 // The row of a term, which no look-up comes before. Nothing sorts before the term of document ends, so that has the first row.
 fn row_alone<'a>(level: &'a OpenLevel, term: &[u8]) -> Option<TermCursor<'a>>
     ensures tables { IfSome result (λ c. c.tables ≡ level.now) }
-    ensures row { MatchOption (row_at result) ((i : ℕ) → slice_get (level_terms level.now) i ≡ Some term.now → ⊥) (λ i. slice_get (level_terms level.now) i ≡ Some term.now) }
+    ensures row { MatchOption (row_at result) ((i : ℕ) → slice_get (level_terms level.now) i ≡ Some term.now
+        → ⊥) (λ i. slice_get (level_terms level.now) i ≡ Some term.now) }
 {
     if is_end_term(term) {
         let first = level.first();
@@ -207,7 +218,8 @@ fn row_among<'a>(among: &mut [Near<'a>], number: usize, term: &[u8]) -> Option<T
     requires { number < length among.old }
     ensures kept { among.new ≡ among.old }
     ensures tables { (d : Tables) → IfSome result (λ c. c.tables ≡ slice_index_or among.old number d) }
-    ensures row { (d : Tables) → MatchOption (row_at result) ((i : ℕ) → slice_get (level_terms (slice_index_or among.old number d)) i ≡ Some term.now → ⊥)
+    ensures row { (d : Tables) → MatchOption (row_at result) ((i : ℕ)
+        → slice_get (level_terms (slice_index_or among.old number d)) i ≡ Some term.now → ⊥)
         (λ i. slice_get (level_terms (slice_index_or among.old number d)) i ≡ Some term.now) }
 {
     among[number].find(term)
@@ -230,10 +242,12 @@ fn load_row<D: Disk>(
     requires ends { D.tells → AreEndsWhole kept.old.ends (D.state disk.old).content (level.now ∷ []) }
     requires tested { AreTestedIn D.tells (D.state disk.old).content number level.now kept.old }
     ensures number { IfOk result (λ list. level_in list ≡ number) }
-    ensures list { D.tells → IfOk result (λ list. level_list list ≡ list_at (D.state disk.old).content (record { number = number; level = level.now; row = row.now.row })) }
+    ensures list { D.tells → IfOk result (λ list. level_list list
+        ≡ list_at (D.state disk.old).content (record { number = number; level = level.now; row = row.now.row })) }
     ensures kept { IfOk result (λ list. KeepsRow level.now row.now.row (level_list list)) }
     ensures keeps { KeepsTested D.tells (D.state disk.old).content number level.now kept.old kept.new }
-    ensures loads { ReadsLists D.tells (load_at number level.now (Some row.now.row)) (D.state disk.old) (D.state disk.new) result }
+    ensures loads { ReadsLists D.tells (load_at number level.now (Some row.now.row)) (D.state disk.old)
+        (D.state disk.new) result }
 {
     if is_tested(kept.ends, level, row, term) {
         let list = all_ends(number, level)?;
@@ -263,10 +277,12 @@ fn read_row<D: Disk>(
     requires term { slice_get (level_terms level.now) row.now.row ≡ Some term.now }
     requires within { D.tells → LiesWithin level.now (D.state disk.old).content }
     ensures number { IfOk result (λ list. level_in list ≡ number) }
-    ensures list { D.tells → IfOk result (λ list. level_list list ≡ list_at (D.state disk.old).content (record { number = number; level = level.now; row = row.now.row })) }
+    ensures list { D.tells → IfOk result (λ list. level_list list
+        ≡ list_at (D.state disk.old).content (record { number = number; level = level.now; row = row.now.row })) }
     ensures kept { IfOk result (λ list. KeepsRow level.now row.now.row (level_list list)) }
     ensures keeps { KeepsTested D.tells (D.state disk.old).content number level.now kept.old kept.new }
-    ensures loads { ReadsLists D.tells (load_at number level.now (Some row.now.row)) (D.state disk.old) (D.state disk.new) result }
+    ensures loads { ReadsLists D.tells (load_at number level.now (Some row.now.row)) (D.state disk.old)
+        (D.state disk.new) result }
 {
     match load_list(alloc, disk, level, row) {
         Ok(posting) => Ok(LevelList {
@@ -283,7 +299,8 @@ fn is_tested(ends: Ends, level: &OpenLevel, row: &TermCursor<'_>, term: &[u8]) -
     requires tables { row.now.tables ≡ level.now }
     requires row { row.now.row < length level.now.terms }
     requires term { slice_get (level_terms level.now) row.now.row ≡ Some term.now }
-    ensures ends { IsTrue result → (image : List ℕ) → AreEndsWhole ends image (level.now ∷ []) → IsAllEnds image (record { number = 0; level = level.now; row = row.now.row }) }
+    ensures ends { IsTrue result → (image : List ℕ) → AreEndsWhole ends image (level.now ∷ [])
+        → IsAllEnds image (record { number = 0; level = level.now; row = row.now.row }) }
     ensures kept { IsTrue result → KeepsRow level.now row.now.row (ends_of level.now.documents) }
     ensures small { IsTrue result → stream_size level.now row.now.row < 2 ^ 64 }
 {
@@ -298,7 +315,8 @@ fn counts_all_ends(level: &OpenLevel, row: &TermCursor<'_>, term: &[u8]) -> bool
     requires tables { row.now.tables ≡ level.now }
     requires row { row.now.row < length level.now.terms }
     requires term { slice_get (level_terms level.now) row.now.row ≡ Some term.now }
-    ensures ends { IsTrue result → (image : List ℕ) → AreEndsWhole Ends.Tested image (level.now ∷ []) → IsAllEnds image (record { number = 0; level = level.now; row = row.now.row }) }
+    ensures ends { IsTrue result → (image : List ℕ) → AreEndsWhole Ends.Tested image (level.now ∷ [])
+        → IsAllEnds image (record { number = 0; level = level.now; row = row.now.row }) }
     ensures kept { IsTrue result → KeepsRow level.now row.now.row (ends_of level.now.documents) }
     ensures small { IsTrue result → stream_size level.now row.now.row < 2 ^ 64 }
 {

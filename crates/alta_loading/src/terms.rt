@@ -37,9 +37,12 @@ pub fn load_terms<D: Disk>(
     requires within { D.tells → All (λ level. LiesWithin level (D.state disk.old).content) levels.now }
     requires known { AreKept D.tells (D.state disk.old).content levels.now kept.old }
     requires sound { IsTrue newest.now.sound }
-    ensures keys { IfOk result (λ loaded. map key_of loaded.items ≡ map (term_key levels.now newest.now.content) terms.items) }
-    ensures lists { D.tells → IfOk result (λ loaded. map term_lists loaded.items ≡ map (lists_of_term levels.now newest.now.content (D.state disk.old).content) terms.items) }
-    ensures kept { IfOk result (λ loaded. KeepTerms levels.now newest.now.content terms.items (map term_lists loaded.items)) }
+    ensures keys { IfOk result (λ loaded. map key_of loaded.items
+        ≡ map (term_key levels.now newest.now.content) terms.items) }
+    ensures lists { D.tells → IfOk result (λ loaded. map term_lists loaded.items
+        ≡ map (lists_of_term levels.now newest.now.content (D.state disk.old).content) terms.items) }
+    ensures kept { IfOk result (λ loaded. KeepTerms levels.now newest.now.content terms.items
+        (map term_lists loaded.items)) }
     ensures known { AreKept D.tells (D.state disk.new).content levels.now kept.new }
     ensures loads { ReadsLists D.tells (loads_of levels.now terms.items) (D.state disk.old) (D.state disk.new) result }
 {

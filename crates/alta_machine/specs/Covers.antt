@@ -17,7 +17,8 @@ pub record IsGreatest (first last : ℕ) (range : Range) : Type 0 where
 -- From the first number on the greatest range that begins there, and the same behind it, up to the last.
 abbrev pub Covers : ℕ → ℕ → List Range → Type 0
 Covers first last [] = last < first
-Covers first last (range ∷ ranges) = (first ≤ last) × IsGreatest first last range × Covers (first + 2 ^ range.level) last ranges
+Covers first last (range ∷ ranges) = (first ≤ last) × IsGreatest first last range
+    × Covers (first + 2 ^ range.level) last ranges
 
 -- a level, and a prefix that a number of 32 bits may have there
 pub record IsRange (range : Range) : Type 0 where
@@ -44,7 +45,8 @@ range_from first last = record { level = top_level first last LEVELS; prefix = f
 unfoldable pub cover_steps : ℕ → ℕ → ℕ → List Range
 cover_steps zero first last = []
 cover_steps (suc n) first last =
-    if nat_lt last first then [] else range_from first last ∷ cover_steps n (first + 2 ^ (range_from first last).level) last
+    if nat_lt last first then [] else range_from first last ∷ cover_steps n
+    (first + 2 ^ (range_from first last).level) last
 
 -- The cover, as a list: what `Covers` says of one list alone. There are at most 62 ranges.
 unfoldable pub cover_of : ℕ → ℕ → List Range

@@ -29,7 +29,8 @@ opening text documents cursors = opened_by documents cursors (query_of text)
 
 -- the first answers, so many at most, and whether some are left behind them
 abbrev pub page_lines : ℕ → List Document → List ℕ
-page_lines count left = answer_lines (take count left) ++ (if nat_lt 0 (length (drop count left)) then codes "more\n" else codes "end\n")
+page_lines count left = answer_lines (take count left) ++ (if nat_lt 0 (length (drop count left))
+    then codes "more\n" else codes "end\n")
 
 abbrev pub fetched_as : ℕ → ℕ → List OpenAnswers → Option (List Document) → Turn
 fetched_as number count cursors None = (cursors, codes "! no such cursor\n")

@@ -13,7 +13,8 @@ is_kept places bound = nat_le (get_or places bound.first 0 + bound.behind) (get_
 abbrev pub is_answered : List (List (List ℕ)) → List Bound → List ℕ → List Test → Bool
 is_answered cells bounds places [] = list_all (is_kept places) bounds
 is_answered cells bounds places (test ∷ tests) =
-    list_any (λ place. meets test (get_or cells place []) && is_answered cells bounds (places ++ place ∷ []) tests) (range_with_len 0 (length cells))
+    list_any (λ place. meets test (get_or cells place []) && is_answered cells bounds (places ++ place ∷ []) tests)
+    (range_with_len 0 (length cells))
 
 -- some places answer the pattern
 abbrev pub is_satisfied : List (List (List ℕ)) → Pattern → Bool

@@ -74,7 +74,8 @@ agree false b = not b
 
 -- two cells have the same folded words, and both or neither end a title, and a document
 abbrev pub is_alike : List (List ℕ) → List (List ℕ) → Bool
-is_alike a b = are_same (of_kind WORD a) (of_kind WORD b) && (agree (ends_title a) (ends_title b) && agree (ends_document a) (ends_document b))
+is_alike a b = are_same (of_kind WORD a) (of_kind WORD b)
+    && (agree (ends_title a) (ends_title b) && agree (ends_document a) (ends_document b))
 
 abbrev pub are_alike : List (List (List ℕ)) → List (List (List ℕ)) → Bool
 are_alike [] [] = true
@@ -84,7 +85,8 @@ are_alike (a ∷ others) (b ∷ bs) = is_alike a b && are_alike others bs
 
 unfoldable pub has_line : Document → Bool
 has_line d =
-    is_plain d.cells && (are_alike (cells_again d) d.cells && (not (has_byte 9 (title_text d.cells)) && nat_le (length (add_line d)) LINE_LIMIT))
+    is_plain d.cells && (are_alike (cells_again d) d.cells
+    && (not (has_byte 9 (title_text d.cells)) && nat_le (length (add_line d)) LINE_LIMIT))
 
 -- the line that adds the document again, if there is one
 unfoldable pub line_of : Document → Option (List ℕ)

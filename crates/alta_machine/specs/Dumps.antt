@@ -28,7 +28,8 @@ dump_of s = dumped s.documents
 -- the documents once their lines were added, numbered from here on
 abbrev pub added_from : ℕ → List Document → List Document
 added_from number [] = []
-added_from number (d ∷ ds) = record { number = number; name = d.name; cells = cells_again d } ∷ added_from (number + 1) ds
+added_from number (d ∷ ds) = record { number = number; name = d.name; cells = cells_again d }
+    ∷ added_from (number + 1) ds
 
 -- the state that the add lines of the documents make
 abbrev pub restored : List Document → State

@@ -31,7 +31,8 @@ constant plus minus =
     else [])
 
 abbrev pub bound_line : Inequality → List ℕ
-bound_line b = low_letter b.form ++ decimal b.i ++ codes " <= " ++ high_letter b.form ++ decimal b.j ++ constant b.plus b.minus ++ codes "\n"
+bound_line b = low_letter b.form ++ decimal b.i ++ codes " <= " ++ high_letter b.form ++ decimal b.j
+    ++ constant b.plus b.minus ++ codes "\n"
 
 abbrev pub bound_lines : List ℕ → List Inequality → List ℕ
 bound_lines margin [] = []
@@ -69,9 +70,12 @@ deeper margin = margin ++ codes "  "
 -- the lines of a node and of all below it, behind the margin
 abbrev mutual
   pub explained : List ℕ → Tree → List ℕ
-  explained margin (found f) = margin ++ codes "found D" ++ tests_text f.tests ++ codes "\n" ++ bound_lines (deeper margin) f.bounds
-  explained margin (all_of ts) = margin ++ codes "all " ++ decimal (count ts) ++ codes "\n" ++ explained_each (deeper margin) ts
-  explained margin (any_of ts) = margin ++ codes "any " ++ decimal (count ts) ++ codes "\n" ++ explained_each (deeper margin) ts
+  explained margin (found f) = margin ++ codes "found D" ++ tests_text f.tests ++ codes "\n"
+      ++ bound_lines (deeper margin) f.bounds
+  explained margin (all_of ts) = margin ++ codes "all " ++ decimal (count ts) ++ codes "\n"
+      ++ explained_each (deeper margin) ts
+  explained margin (any_of ts) = margin ++ codes "any " ++ decimal (count ts) ++ codes "\n"
+      ++ explained_each (deeper margin) ts
   explained margin (without t) = margin ++ codes "not\n" ++ explained (deeper margin) t
 
   pub explained_each : List ℕ → Trees → List ℕ

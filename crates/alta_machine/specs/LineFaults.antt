@@ -15,7 +15,8 @@ abbrev pub word_of : List ℕ → List ℕ
 word_of text = before_first is_space text
 
 abbrev pub verbs : List (List ℕ)
-verbs = codes "add" ∷ codes "delete" ∷ codes "search" ∷ codes "count" ∷ codes "explain" ∷ codes "open" ∷ codes "fetch" ∷ codes "close"
+verbs = codes "add" ∷ codes "delete" ∷ codes "search" ∷ codes "count" ∷ codes "explain" ∷ codes "open"
+    ∷ codes "fetch" ∷ codes "close"
     ∷ codes "top" ∷ codes "flush" ∷ codes "merge" ∷ codes "step" ∷ codes "stats" ∷ codes "dump" ∷ []
 
 unfoldable pub is_verb : List ℕ → Bool

@@ -32,7 +32,11 @@ refusal Bad = codes "! bad line\n"
 -- a document takes the place of the live one with this number, or is added where there is none
 abbrev pub put_as : Option ℕ → List ℕ → List ℕ → List ℕ → State → State × List ℕ
 put_as None name title body s = (with_added name title body s, codes "added " ++ decimal s.next ++ codes "\n")
-put_as (Some n) name title body s = (with_replaced name title body s, codes "replaced " ++ decimal n ++ codes " by " ++ decimal s.next ++ codes "\n")
+put_as (Some n) name title body s = (
+  with_replaced name title body s,
+  codes "replaced " ++ decimal n ++ codes " by "
+      ++ decimal s.next ++ codes "\n",
+)
 
 -- a document is added, in place of a live one with its name, where the name can be one and a number is left
 unfoldable pub adding : List ℕ → List ℕ → List ℕ → State → State × List ℕ
@@ -54,7 +58,8 @@ deleting name s = if is_name name then deleted_as (number_of name s) name s else
 -- how many documents there are, how many words they have, and the next number
 unfoldable pub stats_of : State → List ℕ
 stats_of s =
-    codes "documents " ++ decimal (length s.documents) ++ codes " words " ++ decimal (words_in s) ++ codes " next " ++ decimal s.next ++ codes "\n"
+    codes "documents " ++ decimal (length s.documents) ++ codes " words " ++ decimal (words_in s) ++ codes " next "
+    ++ decimal s.next ++ codes "\n"
 
 -- the machine after a change of its state, and the reply
 abbrev pub changed_by : Machine → State × List ℕ → Machine × List ℕ

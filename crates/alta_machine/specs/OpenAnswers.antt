@@ -20,7 +20,8 @@ is_taken number numbers = list_any (λ n. n == number) numbers
 -- the first number from this one on that is none of these; so many are tried, and then it is the next one
 abbrev pub first_free : ℕ → ℕ → List ℕ → ℕ
 first_free zero number numbers = number
-first_free (suc tries) number numbers = if is_taken number numbers then first_free tries (number + 1) numbers else number
+first_free (suc tries) number numbers = if is_taken number numbers
+    then first_free tries (number + 1) numbers else number
 
 -- the least number from 1 on that no open cursor has: it is at most one more than they are
 abbrev pub least_free : List OpenAnswers → ℕ

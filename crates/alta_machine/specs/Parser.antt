@@ -71,19 +71,52 @@ near_atom l k None = near l k l
 near_atom l k (Some r) = near l k r
 
 abbrev pub operand_step : Mode → Parsing → Lone → Parsing
-operand_step expects s a = give (operand_mode expects (side_of a)) (atom (lone a)) s.ors s.ands s.frames (s.words + weight (operand a))
-operand_step has s a = give (operand_mode has (side_of a)) (atom (lone a)) s.ors s.ands s.frames (s.words + weight (operand a))
-operand_step (beside l) s a = give (operand_mode (beside l) (side_of a)) (atom (lone a)) s.ors s.ands s.frames (s.words + weight (operand a))
+operand_step expects s a = give (operand_mode expects (side_of a)) (atom (lone a)) s.ors s.ands s.frames
+    (s.words + weight (operand a))
+operand_step has s a = give (operand_mode has (side_of a)) (atom (lone a)) s.ors s.ands s.frames
+    (s.words + weight (operand a))
+operand_step (beside l) s a = give (operand_mode (beside l) (side_of a)) (atom (lone a)) s.ors s.ands s.frames
+    (s.words + weight (operand a))
 operand_step (behind_near l k) s a =
-    record { mode = has; ors = s.ors; ands = put_last (near_atom l k (side_of a)) s.ands; frames = s.frames; words = s.words + weight (operand a) }
+    record {
+      mode = has;
+      ors = s.ors;
+      ands = put_last (near_atom l k (side_of a)) s.ands;
+      frames = s.frames;
+      words = s.words + weight (operand a);
+    }
 
 abbrev pub after_token : Parsing → Token → Parsing
-after_token s open_paren = record { mode = expects; ors = []; ands = []; frames = paren_frame s.ors s.ands ∷ s.frames; words = s.words + 0 }
+after_token s open_paren = record {
+  mode = expects;
+  ors = [];
+  ands = [];
+  frames = paren_frame s.ors s.ands ∷ s.frames;
+  words = s.words + 0;
+}
 after_token s close_paren = close (whole s.ors s.ands) s.frames (s.words + 0)
 after_token s and_word = record { mode = expects; ors = s.ors; ands = s.ands; frames = s.frames; words = s.words + 0 }
-after_token s or_word = record { mode = expects; ors = s.ors ++ all_of s.ands ∷ []; ands = []; frames = s.frames; words = s.words + 0 }
-after_token s not_word = record { mode = expects; ors = s.ors; ands = s.ands; frames = not_frame ∷ s.frames; words = s.words + 0 }
-after_token s (near_word k) = record { mode = near_mode s.mode k; ors = s.ors; ands = s.ands; frames = s.frames; words = s.words + 0 }
+after_token s or_word = record {
+  mode = expects;
+  ors = s.ors ++ all_of s.ands ∷ [];
+  ands = [];
+  frames = s.frames;
+  words = s.words + 0;
+}
+after_token s not_word = record {
+  mode = expects;
+  ors = s.ors;
+  ands = s.ands;
+  frames = not_frame ∷ s.frames;
+  words = s.words + 0;
+}
+after_token s (near_word k) = record {
+  mode = near_mode s.mode k;
+  ors = s.ors;
+  ands = s.ands;
+  frames = s.frames;
+  words = s.words + 0;
+}
 after_token s (operand a) = operand_step s.mode s a
 after_token s (faulty c) = record { mode = has; ors = s.ors; ands = s.ands; frames = s.frames; words = s.words + 0 }
 

@@ -57,7 +57,8 @@ abbrev pub neighbours : ℕ → List Test → List Bound
 neighbours i [] = []
 neighbours i (test ∷ []) = []
 neighbours i (test ∷ next ∷ tests) =
-    record { first = i; behind = 1; second = suc i; ahead = 0 } ∷ record { first = suc i; behind = 0; second = i; ahead = 1 } ∷ neighbours (suc i) (next ∷ tests)
+    record { first = i; behind = 1; second = suc i; ahead = 0 }
+    ∷ record { first = suc i; behind = 0; second = i; ahead = 1 } ∷ neighbours (suc i) (next ∷ tests)
 
 abbrev pub phrase_pattern : List Test → Pattern
 phrase_pattern tests = record { tests = tests; bounds = neighbours 0 tests }
@@ -66,7 +67,8 @@ phrase_pattern tests = record { tests = tests; bounds = neighbours 0 tests }
 abbrev pub near_pattern : Test → ℕ → Test → Pattern
 near_pattern left distance right = record {
   tests = left ∷ right ∷ [];
-  bounds = record { first = 0; behind = 0; second = 1; ahead = distance } ∷ record { first = 1; behind = 0; second = 0; ahead = distance } ∷ [];
+  bounds = record { first = 0; behind = 0; second = 1; ahead = distance }
+      ∷ record { first = 1; behind = 0; second = 0; ahead = distance } ∷ [];
 }
 
 -- the cell where a title ends
@@ -133,4 +135,5 @@ numbers_in (near left distance right) = None
 
 -- the cells match a value where they satisfy one of its patterns, and any other atom where they satisfy its pattern
 abbrev pub AtomMatches : List (List (List ℕ)) → Atom → Type 0
-AtomMatches cells a = MatchOption (numbers_in a) (Satisfies cells (pattern_of a)) (λ numbers. SatisfiesOne cells (value_patterns numbers.0 numbers.1))
+AtomMatches cells a = MatchOption (numbers_in a) (Satisfies cells (pattern_of a))
+    (λ numbers. SatisfiesOne cells (value_patterns numbers.0 numbers.1))

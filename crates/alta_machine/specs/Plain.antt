@@ -38,8 +38,10 @@ pub record IsPlain (cells : List (List (List ℕ))) : Type 0 where
 
 -- the same as tests
 abbrev pub has_one_word : List (List ℕ) → Bool
-has_one_word cell = nat_le (length (of_kind WORD cell)) 1 && list_all (λ term. is_utf8 (rest_of term)) (of_kind WORD cell)
+has_one_word cell = nat_le (length (of_kind WORD cell)) 1
+    && list_all (λ term. is_utf8 (rest_of term)) (of_kind WORD cell)
 
 unfoldable pub is_plain : List (List (List ℕ)) → Bool
 is_plain cells =
-    count_by ends_title cells == 1 && (not (ends_title (get_or cells 0 [])) && (not (ends_title (get_or cells (length cells - 1) [])) && list_all has_one_word cells))
+    count_by ends_title cells == 1 && (not (ends_title (get_or cells 0 []))
+    && (not (ends_title (get_or cells (length cells - 1) [])) && list_all has_one_word cells))

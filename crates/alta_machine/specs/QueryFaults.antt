@@ -98,7 +98,8 @@ many_cause words t = if nat_le (words + weight t) 64 then None else Some cause.M
 -- the cause at a token, where so much is open and so many words came before
 abbrev pub cause_at : Mode → List Mark → ℕ → Token → Option Cause
 cause_at mode opened words t =
-    option_or (option_or (option_or (own_cause t) (table_cause mode (any_open opened) t)) (deep_cause (length opened) t)) (many_cause words t)
+    option_or (option_or (option_or (own_cause t) (table_cause mode (any_open opened) t))
+    (deep_cause (length opened) t)) (many_cause words t)
 
 abbrev pub side_mode : Option Side → Mode
 side_mode None = has
@@ -174,7 +175,8 @@ at_place p None later = later
 abbrev pub fault_from : Mode → List Mark → ℕ → List Spot → ℕ → Option Fault
 fault_from mode opened words [] end = at_place end (end_cause mode opened) None
 fault_from mode opened words (at p t ∷ ts) end =
-    at_place p (cause_at mode opened words t) (fault_from (mode_behind mode t) (open_behind mode opened t) (words + weight t) ts end)
+    at_place p (cause_at mode opened words t)
+    (fault_from (mode_behind mode t) (open_behind mode opened t) (words + weight t) ts end)
 
 -- the first fault of a text with these tokens and that length
 unfoldable pub fault_of : List Spot → ℕ → Option Fault

@@ -18,7 +18,8 @@ top_count_of text = count_in 4 1000 text
 
 -- the parts around the first such byte
 unfoldable pub parted : (ℕ → Bool) → List ℕ → Option (List ℕ × List ℕ)
-parted p text = if nat_lt (position_or_len p text) (length text) then Some (before_first p text, after_first p text) else None
+parted p text = if nat_lt (position_or_len p text) (length text)
+    then Some (before_first p text, after_first p text) else None
 
 abbrev pub with_body : List ℕ → Option (List ℕ × List ℕ) → Option Command
 with_body name None = None

@@ -79,7 +79,8 @@ counted_by documents (Err f) = query_refusal f
 -- the best answers of a query, so many at most, by falling score and at the same score by rising number; then how many answers there are
 abbrev pub ranked_by : ℕ → List Document → Result Shape Fault → List ℕ
 ranked_by count documents (Ok q) =
-    score_lines (take count (ranked (map (scored (uses_of q)) (answers documents q)))) ++ found_line (length (answers documents q))
+    score_lines (take count (ranked (map (scored (uses_of q)) (answers documents q))))
+    ++ found_line (length (answers documents q))
 ranked_by count documents (Err f) = query_refusal f
 
 -- the canonical spelling of a query, and then its plan

@@ -33,7 +33,8 @@ unfoldable pub prefix_token : Bool → List ℕ → Token
 prefix_token title stem = if is_stem stem then operand (prefix title stem (stem_test stem)) else faulty cause.Prefix
 
 unfoldable pub plain_token : Bool → List ℕ → Token
-plain_token title text = if ends_with nat_eq text (codes "*") then prefix_token title (take (length text - 1) text) else words_token title text
+plain_token title text = if ends_with nat_eq text (codes "*") then prefix_token title (take (length text - 1) text)
+    else words_token title text
 
 unfoldable pub name_token : List ℕ → Token
 name_token text = if is_name text then operand (name text) else faulty cause.Name
@@ -55,7 +56,8 @@ ordered (Some low) (Some high) = if nat_le low high then operand (value low high
 
 -- a number, and behind two dots another
 abbrev pub dotted : List ℕ → List ℕ → Token
-dotted low rest = if starts_with nat_eq rest (codes "..") then ordered (number_in low) (number_in (drop 2 rest)) else faulty cause.Value
+dotted low rest = if starts_with nat_eq rest (codes "..") then ordered (number_in low) (number_in (drop 2 rest))
+    else faulty cause.Value
 
 -- the numbers from one to another, cut at the first dot
 unfoldable pub value_token : List ℕ → Token
@@ -74,10 +76,12 @@ run_token text =
 -- a quoted piece, behind its first quote
 unfoldable pub quoted_token : Bool → List ℕ → Token
 quoted_token title rest =
-    if nat_lt (position_or_len is_quote rest) (length rest) then words_token title (before_first is_quote rest) else faulty cause.Quote
+    if nat_lt (position_or_len is_quote rest) (length rest) then words_token title (before_first is_quote rest)
+    else faulty cause.Quote
 
 unfoldable pub quoted_len : List ℕ → ℕ
-quoted_len rest = if nat_lt (position_or_len is_quote rest) (length rest) then position_or_len is_quote rest + 1 else length rest
+quoted_len rest = if nat_lt (position_or_len is_quote rest) (length rest)
+    then position_or_len is_quote rest + 1 else length rest
 
 -- `title:` and at once a quoted piece
 unfoldable pub is_quoted_title : List ℕ → Bool

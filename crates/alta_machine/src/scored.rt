@@ -39,7 +39,8 @@ impl Ord for Scored {
 }
 
 impl PartialOrd for Scored {
-    ghost partial_cmp = { as_partial_cmp (then_cmp (flip_args (on (λ s. s.score) nat_cmp)) (on (λ s. s.number) nat_cmp)) };
+    ghost partial_cmp = { as_partial_cmp (then_cmp (flip_args (on (λ s. s.score) nat_cmp))
+        (on (λ s. s.number) nat_cmp)) };
 
     ghost laws = { partial_order_from_own_ties (Prim.search (comparing, rules)) (Prim.search (comparing, rules)) };
 

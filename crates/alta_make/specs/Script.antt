@@ -7,7 +7,8 @@ parity i = if i % 2 == 0 then codes "even" else codes "odd"
 -- the line that adds document i, with this last word
 abbrev pub add_with : ℕ → List ℕ → List ℕ
 add_with i word =
-    codes "add d" ++ decimal i ++ codes "\titem " ++ decimal i ++ codes "\tw" ++ decimal (i % 10) ++ codes " w" ++ decimal (i % 100) ++ codes " " ++ word
+    codes "add d" ++ decimal i ++ codes "\titem " ++ decimal i ++ codes "\tw" ++ decimal (i % 10) ++ codes " w"
+    ++ decimal (i % 100) ++ codes " " ++ word
 
 -- the line that adds document i
 abbrev pub add_line : ℕ → List ℕ
@@ -38,5 +39,6 @@ script n = adds n ++ (deletes n ++ codes "merge" ∷ [])
 -- the lines that ask for a report
 abbrev pub report : List (List ℕ)
 report =
-    codes "stats" ∷ codes "count even" ∷ codes "count \"w7 odd\"" ∷ codes "count w3 NOT even" ∷ codes "count title:item w42"
+    codes "stats" ∷ codes "count even" ∷ codes "count \"w7 odd\"" ∷ codes "count w3 NOT even"
+    ∷ codes "count title:item w42"
     ∷ codes "count w2 NEAR/1 even" ∷ codes "search name:d1999" ∷ []

@@ -34,7 +34,8 @@ pub record IsJob (job : Job) (view : View) : Type 0 where
   pub oldest : view.levels ≡ older ∷ newer ∷ more
   pub contents : (job.older ≡ older.content) × (job.newer ≡ newer.content)
   pub left : job.merged < length (terms_in (job.older ∷ job.newer ∷ []))
-  pub dead : All (λ (row : DocRow). ends_among job.dead row ≡ true → is_gone view row ≡ true) (job.older.documents ++ job.newer.documents)
+  pub dead : All (λ (row : DocRow). ends_among job.dead row ≡ true
+      → is_gone view row ≡ true) (job.older.documents ++ job.newer.documents)
 
 abbrev pub IsJobOf : Option Job → View → Type 0
 IsJobOf None view = Unit {0}

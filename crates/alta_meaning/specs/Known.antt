@@ -47,7 +47,11 @@ known_added name known = record { next = known.next + 1; live = known.live ++ na
 
 -- the document with this number is left out
 abbrev pub known_without : ℕ → Known → Known
-known_without number known = record { next = known.next; live = filter (λ (row : Named). not (row.number == number)) known.live }
+known_without number known = record {
+  next = known.next;
+  live = filter
+      (λ (row : Named). not (row.number == number)) known.live;
+}
 
 -- what is known behind an entry
 abbrev pub known_behind : Known → Entry → Known
@@ -58,7 +62,8 @@ known_behind known (Replace number name title body) = known_added name (known_wi
 -- What is known behind entries, or where the first of them is that is not admitted: at its record's payload.
 abbrev pub replayed : Known → List Placed → Result Known ℕ
 replayed known [] = Ok known
-replayed known (p ∷ more) = if admits known p.entry then replayed (known_behind known p.entry) more else Err (p.place + 5)
+replayed known (p ∷ more) = if admits known p.entry then replayed (known_behind known p.entry) more
+    else Err (p.place + 5)
 
 -- ---- of a state
 

@@ -47,7 +47,8 @@ list_at place stream (Some fault) = Err (place + fault.place)
 
 -- the deleted ends of a root, by its deletion list; a root without one names no bytes
 unfoldable pub deleted_in : Root → List ℕ → Result (List ℕ) ℕ
-deleted_in root image = list_at root.deletions.place (bytes_at root.deletions image) (first_fault (bytes_at root.deletions image))
+deleted_in root image = list_at root.deletions.place (bytes_at root.deletions image)
+    (first_fault (bytes_at root.deletions image))
 
 -- ---- a level, behind those before it
 
@@ -73,7 +74,8 @@ is_below root row = nat_lt row.number root.next_number && nat_lt (end_of row) ro
 
 -- the numbers and locations of a level lie above those of the levels before it, and below the next ones of the root
 abbrev pub are_in_order : Root → List Tables → List DocRow → Bool
-are_in_order root levels rows = list_all (λ (row : DocRow). is_below root row && list_all (λ (earlier : DocRow). comes_behind earlier row) (table_rows levels)) rows
+are_in_order root levels rows = list_all (λ (row : DocRow). is_below root row
+    && list_all (λ (earlier : DocRow). comes_behind earlier row) (table_rows levels)) rows
 
 -- the level, unless it is out of order: that is damage at the place of its extent
 abbrev pub in_order : Root → List Tables → Extent → Tables → Result Tables ℕ
@@ -85,7 +87,8 @@ abbrev pub names_from : List ℕ → Tables → List Named → ℕ → List DocR
 names_from deleted level live i [] = Ok live
 names_from deleted level live i (row ∷ rows) =
     if ends_among deleted row then names_from deleted level live (i + 1) rows
-    else (if is_taken row.name live then Err (name_place level i) else names_from deleted level (live ++ named row.name row.number ∷ []) (i + 1) rows)
+    else (if is_taken row.name live then Err (name_place level i)
+    else names_from deleted level (live ++ named row.name row.number ∷ []) (i + 1) rows)
 
 -- the names of a level behind the levels before it
 abbrev pub names_in : List ℕ → List Tables → Tables → Result (List Named) ℕ
@@ -102,7 +105,8 @@ with_level root deleted levels extent image =
 -- levels of these extents, behind others
 abbrev pub levels_from : Root → List ℕ → List Tables → List Extent → List ℕ → Result (List Tables) ℕ
 levels_from root deleted levels [] image = Ok levels
-levels_from root deleted levels (extent ∷ more) image = with_level root deleted levels extent image >>= λ longer. levels_from root deleted longer more image
+levels_from root deleted levels (extent ∷ more) image = with_level root deleted levels extent image
+    >>= λ longer. levels_from root deleted longer more image
 
 -- the levels of a root
 abbrev pub levels_in : Root → List ℕ → List ℕ → Result (List Tables) ℕ
@@ -112,7 +116,8 @@ levels_in root deleted image = levels_from root deleted [] root.levels.items ima
 
 -- each deleted end is the end of a document of a level
 abbrev pub have_ends : List Tables → List ℕ → Bool
-have_ends levels deleted = list_all (λ end. list_any (λ (row : DocRow). ends_among (end ∷ []) row) (table_rows levels)) deleted
+have_ends levels deleted = list_all (λ end. list_any (λ (row : DocRow). ends_among (end ∷ []) row)
+    (table_rows levels)) deleted
 
 -- ---- all of it
 
@@ -127,7 +132,8 @@ pub record IsNamed (opened : Opened) (image : List ℕ) : Type 0 where
   pub ends : have_ends opened.levels opened.deleted ≡ true
   pub journal : EndsAt opened.root.version (half_start opened.slot) opened.tail opened.entries image
   pub known : Known
-  pub admitted : replayed (known_at opened.root opened.deleted opened.levels) (placed (half_start opened.slot) opened.entries) ≡ Ok known
+  pub admitted : replayed (known_at opened.root opened.deleted opened.levels)
+      (placed (half_start opened.slot) opened.entries) ≡ Ok known
 
 -- An image is opened as this: the root counts in its slot, and what it names keeps the rules.
 pub record IsOpened (opened : Opened) (image : List ℕ) : Type 0 where

@@ -11,7 +11,11 @@ use Rattle.alta_meaning.specs.Opened.{Opened, IsNamed, bytes_at}
 
 -- the tables of a level by its content
 abbrev pub tables_by : Level → Tables
-tables_by level = record { place = level.extent.place; documents = level.content.documents; terms = rows_of level.content.lists }
+tables_by level = record {
+  place = level.extent.place;
+  documents = level.content.documents;
+  terms = rows_of level.content.lists;
+}
 
 -- These are the levels of what is opened: each one's bytes are the segment of a content, whose tables are those that are
 -- there.

@@ -64,7 +64,14 @@ pub record MayAppend (entry : Entry) (o : Opened) (known : Known) : Type 0 where
 -- ---- a disk without documents
 
 abbrev pub empty_root : Root
-empty_root = record { version = VERSION; sequence = 0; next_number = 1; next_location = 1; levels = record { items = [] }; deletions = no_extent }
+empty_root = record {
+  version = VERSION;
+  sequence = 0;
+  next_number = 1;
+  next_location = 1;
+  levels = record { items = [] };
+  deletions = no_extent;
+}
 
 -- what a disk without documents is opened as
 abbrev pub empty_opened : Opened
@@ -72,7 +79,12 @@ empty_opened = record { slot = A; root = empty_root; deleted = []; levels = []; 
 
 -- what is held of it: no level, no deleted end, no entry and no job, and the first number and location come next
 abbrev pub empty_held : Holding
-empty_held = record { view = record { version = VERSION; next = 1; location = 1; levels = []; deleted = []; entries = [] }; list = no_extent; job = None }
+empty_held =
+    record {
+      view = record { version = VERSION; next = 1; location = 1; levels = []; deleted = []; entries = [] };
+      list = no_extent;
+      job = None;
+    }
 
 -- The first slot is open, and says the root without documents; the second is closed, and so is the first gate of the journal.
 pub record IsFormatted (image : List ℕ) : Type 0 where
@@ -94,13 +106,15 @@ pub record InPlace (root : Root) (deleted : List ℕ) (levels : List Tables) : T
 
 -- A view's levels and deleted ends are in place under each root with its next number and location.
 abbrev pub IsInPlace : View → Type 0
-IsInPlace view = (root : Root) → root.next_number ≡ view.next → root.next_location ≡ view.location → InPlace root view.deleted (map tables_by view.levels)
+IsInPlace view = (root : Root) → root.next_number ≡ view.next → root.next_location ≡ view.location
+    → InPlace root view.deleted (map tables_by view.levels)
 
 -- What a root to come names was put on the disk: its levels, its deletion list, and the first gate of its half, which is closed.
 pub record IsPut (coming : Opened) (levels : List Level) (image : List ℕ) : Type 0 where
   pub follows : MayFollow coming.slot coming.root image
   pub are : AreLevels coming levels image
-  pub bytes : All (λ (l : Level). AreBytes (bytes_at l.extent image) × (length (bytes_at l.extent image) ≡ l.extent.bytes) × (l.extent.bytes < 2 ^ 64)) levels
+  pub bytes : All (λ (l : Level). AreBytes (bytes_at l.extent image)
+      × (length (bytes_at l.extent image) ≡ l.extent.bytes) × (l.extent.bytes < 2 ^ 64)) levels
   pub list : Spells (bytes_at coming.root.deletions image) coming.deleted
   pub empty : coming.entries ≡ []
   pub journal : EndsAt coming.root.version (half_start coming.slot) coming.tail [] image

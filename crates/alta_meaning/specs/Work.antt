@@ -40,10 +40,12 @@ added_at number location name cells = record {
 abbrev pub added_from : ℕ → ℕ → List Entry → List Added
 added_from number location [] = []
 added_from number location (Add name title body ∷ entries) =
-    added_at number location name (cells_of name title body) ∷ added_from (number + 1) (location + length (cells_of name title body)) entries
+    added_at number location name (cells_of name title body) ∷ added_from (number + 1)
+    (location + length (cells_of name title body)) entries
 added_from number location (Delete n ∷ entries) = added_from number location entries
 added_from number location (Replace n name title body ∷ entries) =
-    added_at number location name (cells_of name title body) ∷ added_from (number + 1) (location + length (cells_of name title body)) entries
+    added_at number location name (cells_of name title body) ∷ added_from (number + 1)
+    (location + length (cells_of name title body)) entries
 
 -- the newest documents: those that the journal's entries add
 abbrev pub newest : View → List Added
@@ -110,7 +112,8 @@ is_merged view = nat_le (length view.levels) 1 && length view.deleted == 0 && le
 
 -- a job over the two oldest levels, where there are two
 abbrev pub begun : View → List Level → Option Job
-begun view (older ∷ newer ∷ more) = Some (record { older = older.content; newer = newer.content; dead = gone view; merged = 0 })
+begun view (older ∷ newer ∷ more) = Some
+    (record { older = older.content; newer = newer.content; dead = gone view; merged = 0 })
 begun view others = None
 
 -- the job that goes on, or one that begins

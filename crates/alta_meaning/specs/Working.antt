@@ -111,7 +111,9 @@ abbrev pub merged : ℕ → Holding → Result Holding Full
 merged limit held =
     let view = held.view in
     cond (is_merged view) (Ok held)
-    (switched limit held (coming (joined_in (map (λ (l : Level). l.content) view.levels ++ content_of (newest view) ∷ []) (gone view))) None)
+    (switched limit held
+    (coming (joined_in (map (λ (l : Level). l.content) view.levels ++ content_of (newest view) ∷ []) (gone view)))
+    None)
 
 -- The job is moved on by n terms. Where no term is left, its content takes the place of the two oldest levels, and the newest
 -- documents are flushed. Without a job nothing is done.
@@ -120,7 +122,12 @@ moved limit held n None = Ok held
 moved limit held n (Some job) =
     cond (nat_le (length (terms_in (job.older ∷ job.newer ∷ []))) (job.merged + n))
     (switched limit held (with_oldest (whole_of job) held.view) None)
-    (Ok (record { view = held.view; list = held.list; job = Some (record { older = job.older; newer = job.newer; dead = job.dead; merged = job.merged + n }) }))
+    (Ok (record {
+      view = held.view;
+      list = held.list;
+      job =
+          Some (record { older = job.older; newer = job.newer; dead = job.dead; merged = job.merged + n });
+    }))
 
 -- a step of n terms, which begins a job where none goes on and there are two levels
 abbrev pub stepped : ℕ → Holding → ℕ → Result Holding Full
@@ -137,7 +144,8 @@ entered held entry = record { view = with_entry held.view entry; list = held.lis
 abbrev pub worked : ℕ → Holding → Task → Result Holding Full
 worked limit held (enters entry) =
     cond (needs_raise held.view.version entry) (written limit held >>= λ then. Ok (entered then entry))
-    (cond (fits held.view.entries entry) (Ok (entered held entry)) (flushed limit held >>= λ then. Ok (entered then entry)))
+    (cond (fits held.view.entries entry) (Ok (entered held entry)) (flushed limit held
+    >>= λ then. Ok (entered then entry)))
 worked limit held flushes = flushed limit held
 worked limit held merges = merged limit held
 worked limit held (steps n) = stepped limit held n
@@ -174,13 +182,15 @@ all_contents view = map (λ (l : Level). l.content) view.levels ++ content_of (n
 -- Joins of these contents keep documents: a join has those that are not deleted, where all that is dead is.
 abbrev pub JoinsKeep : List Content → Type 0
 JoinsKeep contents =
-    (dead deleted : List ℕ) → All (λ (row : DocRow). ends_among dead row ≡ true → ends_among deleted row ≡ true) (rows_in contents)
+    (dead deleted : List ℕ) → All (λ (row : DocRow). ends_among dead row ≡ true
+    → ends_among deleted row ≡ true) (rows_in contents)
     → documents_in deleted (joined_in contents dead) ≡ flat_map (documents_in deleted) contents
 
 -- The joins that a task may put in place of levels are joins of them.
 pub record AreJoins (held : Holding) : Type 0 where
   pub oldest : IsJoin held.view (oldest_contents held.view) (oldest_joined held.job held.view)
-  pub whole : (job : Job) → job_of held.job held.view ≡ Some job → IsJoin held.view (oldest_contents held.view) (whole_of job)
+  pub whole : (job : Job) → job_of held.job held.view ≡ Some job
+      → IsJoin held.view (oldest_contents held.view) (whole_of job)
   pub all : IsJoin held.view (all_contents held.view) (joined_in (all_contents held.view) (gone held.view))
 
 -- what a task makes of a state
@@ -195,7 +205,8 @@ state_behind (steps n) s = s
 -- each of these is the first gap of its length, beside what was taken and those before it
 abbrev pub AreFirstGaps : ℕ → List Extent → List Extent → Type 0
 AreFirstGaps limit taken [] = Unit {0}
-AreFirstGaps limit taken (extent ∷ more) = IsFirstGap taken extent.bytes limit extent.place × AreFirstGaps limit (taken ++ extent ∷ []) more
+AreFirstGaps limit taken (extent ∷ more) = IsFirstGap taken extent.bytes limit extent.place
+    × AreFirstGaps limit (taken ++ extent ∷ []) more
 
 -- A place is wanting: the gap is the greatest beside what was taken and what was placed before, each at the first gap, and the need
 -- is above it.

@@ -42,7 +42,8 @@ pub record IsInSpace (a : Added) : Type 0 where
 abbrev pub IsSpace : List Added → Type 0
 IsSpace [] = Unit {0}
 IsSpace (a ∷ more) =
-    IsInSpace a × All (λ b. a.row.number < b.row.number) more × All (λ b. end_of a.row < b.row.first) more × IsSpace more
+    IsInSpace a × All (λ b. a.row.number < b.row.number) more
+    × All (λ b. end_of a.row < b.row.first) more × IsSpace more
 
 -- the content is that of the documents: their rows in order, and in collating order each term that a cell holds, with the locations of the cells that hold it
 pub record HasContent (added : List Added) (content : Content) : Type 0 where

@@ -24,7 +24,8 @@ ReadBack = (added : List Added) → (content : Content) → HasContent added con
 
 -- so are those of them that are not deleted
 abbrev pub LiveReadBack : Type 0
-LiveReadBack = (added : List Added) → (content : Content) → (deleted : List ℕ) → HasContent added content → AreMade added
+LiveReadBack = (added : List Added) → (content : Content) → (deleted : List ℕ)
+    → HasContent added content → AreMade added
     → map (document_of content.lists) (live_rows deleted content.documents) ≡ map document_in (live_of deleted added)
 
 -- their content is a level's, or empty
@@ -33,18 +34,23 @@ HavePart = (added : List Added) → (content : Content) → HasContent added con
 
 -- where there is a document it is a level's
 abbrev pub HaveLevel : Type 0
-HaveLevel = (added : List Added) → (content : Content) → HasContent added content → AreMade added → 0 < length added → IsContent content
+HaveLevel = (added : List Added) → (content : Content) → HasContent added content → AreMade added
+    → 0 < length added → IsContent content
 
 -- the content of documents that stand behind those of contents may be joined with these
 abbrev pub MayJoinBehind : Type 0
-MayJoinBehind = (number location : ℕ) → (contents : List Content) → (added : List Added) → (content : Content) → 1 ≤ number → 1 ≤ location
-    → MayJoin contents → All (IsBefore number location) (rows_in contents) → AreAdded number location added → HasContent added content
+MayJoinBehind = (number location : ℕ) → (contents : List Content) → (added : List Added) → (content : Content)
+    → 1 ≤ number → 1 ≤ location
+    → MayJoin contents → All (IsBefore number location) (rows_in contents) → AreAdded number location added
+    → HasContent added content
     → MayJoin (contents ++ content ∷ [])
 
 -- to leave documents out before is to join without them
 abbrev pub LiveAreJoined : Type 0
-LiveAreJoined = (added : List Added) → (gone : List ℕ) → IsSpace added → content_of (live_of gone added) ≡ joined_in (content_of added ∷ []) gone
+LiveAreJoined = (added : List Added) → (gone : List ℕ) → IsSpace added
+    → content_of (live_of gone added) ≡ joined_in (content_of added ∷ []) gone
 
 -- those that are left keep what the laws ask for
 abbrev pub LiveAreAdded : Type 0
-LiveAreAdded = (number location : ℕ) → (added : List Added) → (gone : List ℕ) → AreAdded number location added → AreAdded number location (live_of gone added)
+LiveAreAdded = (number location : ℕ) → (added : List Added) → (gone : List ℕ) → AreAdded number location added
+    → AreAdded number location (live_of gone added)

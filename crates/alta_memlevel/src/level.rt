@@ -44,7 +44,10 @@ impl Model for MemLevel {
 
     ghost Value = { LevelView };
 
-    ghost view = { λ m. record { sound = m.whole; content = record { documents = m.rows; lists = term_lists m.lists.entries } } };
+    ghost view = { λ m. record {
+      sound = m.whole;
+      content = record { documents = m.rows; lists = term_lists m.lists.entries };
+    } };
 
     ghost invariant = { λ m. IsTrue m.whole → IsIndex m.lists.entries × RowsRise m.rows };
 }
@@ -85,7 +88,8 @@ impl MemLevel {
         ensures sound { OnOk result (IsTrue self.new.sound) }
         ensures unsound { OnErr result (self.new.sound ≡ false) }
         ensures documents { OnOk result (self.new.content.documents ≡ self.old.content.documents ++ row ∷ []) }
-        ensures added { OnOk result ((added : List Added) → HasContent added self.old.content → HasContent (added ++ record { row = row; cells = cells.now } ∷ []) self.new.content) }
+        ensures added { OnOk result ((added : List Added) → HasContent added self.old.content
+            → HasContent (added ++ record { row = row; cells = cells.now } ∷ []) self.new.content) }
     {
         self.whole = false;
         put_cells(self.alloc, &mut self.lists, row.first, cells)?;
@@ -131,7 +135,8 @@ impl MemLevel {
     #[tactic(auto, using(crate::proofs::Contents::terms_of_term_lists))]
     pub fn prefixed(&self, prefix: &[u8]) -> Result<Vec<Bytes>, AllocError>
         requires { IsTrue self.now.sound }
-        ensures terms { IfOk result (λ found. found.items ≡ filter (λ t. starts_with nat_eq t prefix.now) (terms_of self.now.content.lists)) }
+        ensures terms { IfOk result (λ found. found.items
+            ≡ filter (λ t. starts_with nat_eq t prefix.now) (terms_of self.now.content.lists)) }
         ensures rising { IfOk result (λ found. IsStrictlySortedBy (slice_cmp nat_cmp) found.items) }
     {
         let found = terms_from(self.alloc, &self.lists, prefix)?;
@@ -145,8 +150,10 @@ impl MemLevel {
     pub fn drain_content(&mut self, deleted: &[Loc]) -> Result<Content, AllocError>
         requires { IsTrue self.old.sound }
         ensures sound { IsTrue self.new.sound }
-        ensures content { IfOk result (λ content. (added : List Added) → HasContent added self.old.content → HasContent (live_of deleted.now added) content) }
-        ensures rising { IfOk result (λ content. (added : List Added) → HasContent added self.old.content → All (λ l. IsRising l.locations) content.lists) }
+        ensures content { IfOk result (λ content. (added : List Added) → HasContent added self.old.content
+            → HasContent (live_of deleted.now added) content) }
+        ensures rising { IfOk result (λ content. (added : List Added) → HasContent added self.old.content
+            → All (λ l. IsRising l.locations) content.lists) }
         ensures drained { TakesAll self.old self.new result }
     {
         let mut rows = self.rows.copy()?;

@@ -32,7 +32,8 @@ pub fn list_of<'a>(lists: &'a Lists, term: &[u8]) -> &'a [Loc]
 /// Adds a location at the end of the term's.
 pub fn put(alloc: Global, lists: &mut Lists, term: &[u8], location: Loc) -> Result<(), AllocError>
     requires { IsIndex lists.old.entries }
-    ensures { OnOk result (Adds lists.old.entries lists.new.entries (λ other. cond (bytes_eq term.now other) (location ∷ []) [])) }
+    ensures { OnOk result (Adds lists.old.entries lists.new.entries
+        (λ other. cond (bytes_eq term.now other) (location ∷ []) [])) }
 {
     if let Some(list) = lists.get_mut(term) {
         list.push(location)?;
@@ -45,7 +46,8 @@ pub fn put(alloc: Global, lists: &mut Lists, term: &[u8], location: Loc) -> Resu
 fn put_first(alloc: Global, lists: &mut Lists, term: &[u8], location: Loc) -> Result<(), AllocError>
     requires index { IsIndex lists.old.entries }
     requires new { list_in lists.old.entries term.now ≡ [] }
-    ensures { OnOk result (Adds lists.old.entries lists.new.entries (λ other. cond (bytes_eq term.now other) (location ∷ []) [])) }
+    ensures { OnOk result (Adds lists.old.entries lists.new.entries
+        (λ other. cond (bytes_eq term.now other) (location ∷ []) [])) }
 {
     let key = Vec::from_slice(alloc, term)?;
     let list = vec![in alloc; location]?;
@@ -56,7 +58,8 @@ fn put_first(alloc: Global, lists: &mut Lists, term: &[u8], location: Loc) -> Re
 /// Adds a location to each term of the cell.
 fn put_cell(alloc: Global, lists: &mut Lists, cell: &Cell, location: Loc) -> Result<(), AllocError>
     requires { IsIndex lists.old.entries }
-    ensures { OnOk result (Adds lists.old.entries lists.new.entries (λ other. cond (cell_holds other cell.now) (location ∷ []) [])) }
+    ensures { OnOk result (Adds lists.old.entries lists.new.entries
+        (λ other. cond (cell_holds other cell.now) (location ∷ []) [])) }
 {
     for i in 0..cell.len() {
         put_at(alloc, lists, cell, i, location)?;

@@ -18,7 +18,8 @@ fn terms_that_begin<'a>(
     lists: &'a Lists,
     prefix: &[u8],
 ) -> Result<Vec<&'a [u8]>, AllocError>
-    ensures terms { IfOk result (λ found. bytes_in found.items ≡ filter (λ t. starts_with nat_eq t prefix.now) (keys_in lists.now.entries)) }
+    ensures terms { IfOk result (λ found. bytes_in found.items
+        ≡ filter (λ t. starts_with nat_eq t prefix.now) (keys_in lists.now.entries)) }
     ensures apart { IfOk result (λ found. IsDistinct bytes_eq (bytes_in found.items)) }
 {
     let mut found = Vec::new(alloc);
@@ -38,7 +39,8 @@ pub fn terms_in_order<'a>(
     lists: &'a Lists,
     prefix: &[u8],
 ) -> Result<Vec<&'a [u8]>, AllocError>
-    ensures { IfOk result (λ found. bytes_in found.items ≡ filter (λ t. starts_with nat_eq t prefix.now) (in_order (keys_in lists.now.entries))) }
+    ensures { IfOk result (λ found. bytes_in found.items
+        ≡ filter (λ t. starts_with nat_eq t prefix.now) (in_order (keys_in lists.now.entries))) }
 {
     let mut found = terms_that_begin(alloc, lists, prefix)?;
     found.sort_unstable();
@@ -47,7 +49,8 @@ pub fn terms_in_order<'a>(
 
 /// The same terms, copied.
 pub fn terms_from(alloc: Global, lists: &Lists, prefix: &[u8]) -> Result<Vec<Bytes>, AllocError>
-    ensures terms { IfOk result (λ found. found.items ≡ filter (λ t. starts_with nat_eq t prefix.now) (in_order (keys_in lists.now.entries))) }
+    ensures terms { IfOk result (λ found. found.items
+        ≡ filter (λ t. starts_with nat_eq t prefix.now) (in_order (keys_in lists.now.entries))) }
     ensures rising { IfOk result (λ found. IsStrictlySortedBy (slice_cmp nat_cmp) found.items) }
 {
     let terms = terms_in_order(alloc, lists, prefix)?;

@@ -60,11 +60,18 @@ pub record AreNext (parts : List (List TermList)) (n first last : ℕ) : Type 0 
 
 -- the next term, with its locations in all parts
 abbrev pub whole_list : List (List TermList) → ℕ → TermList
-whole_list parts next = record { term = next_term parts next; locations = flat_map (front_of (next_term parts next)) parts }
+whole_list parts next = record {
+  term = next_term parts next;
+  locations = flat_map
+      (front_of (next_term parts next)) parts;
+}
 
 -- the next term, with its locations outside of the spans
 abbrev pub next_list : List Span → List (List TermList) → ℕ → TermList
-next_list spans parts next = record { term = next_term parts next; locations = outside_of spans (flat_map (front_of (next_term parts next)) parts) }
+next_list spans parts next = record {
+  term = next_term parts next;
+  locations = outside_of spans (flat_map (front_of (next_term parts next)) parts);
+}
 
 -- the list if it has a location
 abbrev pub if_some : TermList → List TermList

@@ -88,7 +88,8 @@ fn next_from(rests: &[TermLists], first: usize) -> Next
 
 /// The rests that begin with the least term, None where no list is left.
 pub fn next_of(rests: &[TermLists]) -> Option<Next>
-    ensures { MatchOption result (NoneLeft rests.now (length rests.now)) (λ next. AreNext rests.now (length rests.now) next.first next.last) }
+    ensures { MatchOption result (NoneLeft rests.now (length rests.now))
+        (λ next. AreNext rests.now (length rests.now) next.first next.last) }
 {
     match first_left(rests) {
         Some(first) => Some(next_from(rests, first)),

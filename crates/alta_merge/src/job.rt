@@ -134,7 +134,8 @@ impl Job {
         ensures whole { self.new.whole ≡ self.old.whole }
         ensures left { OnOk result (self.new.left ≡ drop n self.old.left) }
         ensures done { IfOk result (λ done. IsTrue done ↔ self.new.left ≡ []) }
-        ensures wanting { OnErr result ((k : ℕ) × (k < n) × (k < length self.old.left) × (self.new.left ≡ drop k self.old.left)) }
+        ensures wanting { OnErr result ((k : ℕ) × (k < n) × (k < length self.old.left)
+            × (self.new.left ≡ drop k self.old.left)) }
     {
         for i in 0..n {
             if !self.merge_one()? {

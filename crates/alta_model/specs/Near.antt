@@ -11,7 +11,8 @@ is_close (Some left) (Some right) distance = nat_le left (right + distance) && n
 -- the last place below `end` at which the test is met
 abbrev pub IsLast : List (List (List ℕ)) → Test → ℕ → Option ℕ → Type 0
 IsLast cells test end None = (p : ℕ) → p < end → ¬ (IsMet cells test p)
-IsLast cells test end (Some last) = (last < end) × IsMet cells test last × ((p : ℕ) → last < p → p < end → ¬ (IsMet cells test p))
+IsLast cells test end (Some last) = (last < end) × IsMet cells test last
+    × ((p : ℕ) → last < p → p < end → ¬ (IsMet cells test p))
 
 -- no two places below `end` are close
 abbrev pub AreApart : List (List (List ℕ)) → Test → ℕ → Test → ℕ → Type 0

@@ -11,7 +11,8 @@ ghost use Rattle.alta_machine.specs.Shape.{Shape};
 /// A line asks for a command exactly where it is a text that spells the command, and it is refused exactly for the
 /// first of the four causes that applies.
 pub fn a_line_is_read_one_way()
-    ensures asked { (line : List ℕ) (command : Command) → (reading_of line ≡ asks command) ↔ (IsText line × ReadsLine line command) }
+    ensures asked { (line : List ℕ) (command : Command) → (reading_of line ≡ asks command)
+        ↔ (IsText line × ReadsLine line command) }
     ensures refused { (line : List ℕ) (fault : LineFault) → (reading_of line ≡ refuses fault) ↔ IsRefused line fault }
 {}
 

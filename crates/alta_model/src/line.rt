@@ -66,7 +66,8 @@ pub enum Line<'a> {
 pub fn read_line(line: &[u8]) -> Result<Line<'_>, LineFault>
     ensures reading { reading_in result ≡ reading_of line.now }
     ensures read { IfOk result (λ l. IsText line.now × ReadsLine line.now (command_of l)) }
-    ensures only { (command : Command) → IsText line.now → ReadsLine line.now command → IfOk result (λ l. command_of l ≡ command) }
+    ensures only { (command : Command) → IsText line.now → ReadsLine line.now command
+        → IfOk result (λ l. command_of l ≡ command) }
     ensures refused { (fault : LineFault) → (result ≡ Err fault) ↔ IsRefused line.now fault }
 {
     if line.len() > LINE_LIMIT {

@@ -27,6 +27,8 @@ other_of table name = get_by_text table.others name
 -- Each name that has a number has it by its hash or by its text, and each number of the table is that of a name: by its text, or one with
 -- the hash.
 pub record Fits (table : NameTable) (numbers : Numbers) : Type 0 where
-  pub kept : (name : List ℕ) (number : ℕ) → numbers name ≡ Some number → (likely_of table name ≡ Some number) ⊎ (other_of table name ≡ Some number)
-  pub firsts : (hash number : ℕ) → first_of table hash ≡ Some number → (name : List ℕ) × (name_hash name ≡ hash) × (numbers name ≡ Some number)
+  pub kept : (name : List ℕ) (number : ℕ) → numbers name ≡ Some number
+      → (likely_of table name ≡ Some number) ⊎ (other_of table name ≡ Some number)
+  pub firsts : (hash number : ℕ) → first_of table hash ≡ Some number
+      → (name : List ℕ) × (name_hash name ≡ hash) × (numbers name ≡ Some number)
   pub others : (name : List ℕ) (number : ℕ) → other_of table name ≡ Some number → numbers name ≡ Some number

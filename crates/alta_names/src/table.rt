@@ -53,7 +53,8 @@ impl NameTable {
 
     /// Notes the number of a name that has none. Fails for want of memory alone: then the names are as they were.
     pub fn note(&mut self, alloc: Global, name: &str, number: u64) -> Result<(), AllocError>
-        ensures { (numbers : Numbers) → Fits self.old numbers → numbers name.now ≡ None → OnOk result (Fits self.new (update bytes_eq numbers name.now (Some number))) }
+        ensures { (numbers : Numbers) → Fits self.old numbers → numbers name.now ≡ None
+            → OnOk result (Fits self.new (update bytes_eq numbers name.now (Some number))) }
     {
         let hash = hash_of(name);
         if self.firsts.contains_key(&hash) {
@@ -67,7 +68,8 @@ impl NameTable {
 
     /// Forgets a name, by its number, which no other name has.
     pub fn forget(&mut self, name: &str, number: u64)
-        ensures { (numbers : Numbers) → Fits self.old numbers → numbers name.now ≡ Some number → ((other : List ℕ) → numbers other ≡ Some number → name.now ≡ other)
+        ensures { (numbers : Numbers) → Fits self.old numbers → numbers name.now ≡ Some number
+            → ((other : List ℕ) → numbers other ≡ Some number → name.now ≡ other)
             → Fits self.new (update bytes_eq numbers name.now None) }
     {
         forget_first(&mut self.firsts, hash_of(name), number);

@@ -18,7 +18,8 @@ fn passed(rows: &[DocRow], deleted: &[Loc], from: usize) -> Option<usize>
     requires rows { (before : Before) × AreDocumentsBehind before rows.now }
     ensures within { IfSome result (λ at. at ≤ length deleted.now) }
     ensures passed { (before : Before) → (later : List DocRow) → AreDocumentsBehind before (rows.now ++ later)
-        → IfSome result (λ at. are_ends (rows.now ++ later) (drop from deleted.now) ≡ are_ends later (drop at deleted.now)) }
+        → IfSome result (λ at. are_ends (rows.now ++ later) (drop from deleted.now)
+        ≡ are_ends later (drop at deleted.now)) }
     ensures missing { (before : Before) → (later : List DocRow) → AreDocumentsBehind before (rows.now ++ later)
         → IfNone result (are_ends (rows.now ++ later) (drop from deleted.now) ≡ false) }
 {

@@ -54,9 +54,11 @@ fn admit(
     requires reached { HasReached root.now deleted.now found.old }
     requires rising { IsRising deleted.now }
     ensures reached { OnOk result (HasReached root.now deleted.now found.new) }
-    ensures levels { OnOk result (admitted root.now deleted.now found.old.levels.items extent level ≡ Ok found.new.levels.items) }
+    ensures levels { OnOk result (admitted root.now deleted.now found.old.levels.items extent level
+        ≡ Ok found.new.levels.items) }
     ensures pushed { OnOk result (found.new.levels.items ≡ found.old.levels.items ++ level ∷ []) }
-    ensures damaged { (place : ℕ) → result ≡ Err (Damaged place) → admitted root.now deleted.now found.old.levels.items extent level ≡ Err place }
+    ensures damaged { (place : ℕ) → result ≡ Err (Damaged place)
+        → admitted root.now deleted.now found.old.levels.items extent level ≡ Err place }
     ensures disk { result ≢ Err DiskFault }
 {
     let rows = level.documents();
@@ -86,11 +88,15 @@ fn add_level<D: Disk>(
     requires long { D.tells → LEVEL_BYTES ≤ extent.bytes }
     requires inside { D.tells → LiesWithin extent (length (D.state disk.old).content) limit }
     ensures reached { OnOk result (HasReached root.now deleted.now found.new) }
-    ensures levels { D.tells → OnOk result (with_level root.now deleted.now found.old.levels.items extent (D.state disk.old).content ≡ Ok found.new.levels.items) }
-    ensures extents { OnOk result (map extent_of found.new.levels.items ≡ map extent_of found.old.levels.items ++ extent ∷ []) }
-    ensures damaged { D.tells → (place : ℕ) → result ≡ Err (Damaged place) → with_level root.now deleted.now found.old.levels.items extent (D.state disk.old).content ≡ Err place }
+    ensures levels { D.tells → OnOk result (with_level root.now deleted.now found.old.levels.items extent
+        (D.state disk.old).content ≡ Ok found.new.levels.items) }
+    ensures extents { OnOk result (map extent_of found.new.levels.items
+        ≡ map extent_of found.old.levels.items ++ extent ∷ []) }
+    ensures damaged { D.tells → (place : ℕ) → result ≡ Err (Damaged place)
+        → with_level root.now deleted.now found.old.levels.items extent (D.state disk.old).content ≡ Err place }
     ensures retrieves { Retrieves D.tells extent.bytes (D.state disk.old) (D.state disk.new) result }
-    ensures taken { D.tells → (D.state disk.new).taken ≤ (D.state disk.old).taken + level_bytes (D.state disk.old).content extent }
+    ensures taken { D.tells → (D.state disk.new).taken ≤ (D.state disk.old).taken
+        + level_bytes (D.state disk.old).content extent }
 {
     if extent.bytes < LEVEL_BYTES || !ends_within(extent, limit) {
         return Err(LoadFault::Damaged(extent.place));
@@ -108,12 +114,16 @@ pub(crate) fn read_levels<D: Disk>(
     limit: u64,
 ) -> Result<Levels, LoadFault>
     requires rising { IsRising deleted.now }
-    requires inside { D.tells → All (λ extent. (LEVEL_BYTES ≤ extent.bytes) × LiesWithin extent (length (D.state disk.old).content) limit) root.now.levels.items }
+    requires inside { D.tells → All (λ extent. (LEVEL_BYTES ≤ extent.bytes)
+        × LiesWithin extent (length (D.state disk.old).content) limit) root.now.levels.items }
     ensures reached { IfOk result (HasReached root.now deleted.now) }
     ensures extents { IfOk result (λ found. map extent_of found.levels.items ≡ root.now.levels.items) }
-    ensures exact { D.tells → Answers (λ found. found.levels.items) result (levels_in root.now deleted.now (D.state disk.old).content) }
-    ensures retrieves { Retrieves D.tells (sum_by (λ extent. extent.bytes) root.now.levels.items) (D.state disk.old) (D.state disk.new) result }
-    ensures taken { D.tells → (D.state disk.new).taken ≤ (D.state disk.old).taken + sum_by (level_bytes (D.state disk.old).content) root.now.levels.items }
+    ensures exact { D.tells → Answers (λ found. found.levels.items) result
+        (levels_in root.now deleted.now (D.state disk.old).content) }
+    ensures retrieves { Retrieves D.tells (sum_by (λ extent. extent.bytes) root.now.levels.items) (D.state disk.old)
+        (D.state disk.new) result }
+    ensures taken { D.tells → (D.state disk.new).taken ≤ (D.state disk.old).taken
+        + sum_by (level_bytes (D.state disk.old).content) root.now.levels.items }
 {
     let mut found = no_levels(alloc, root, deleted);
     let extents = root.levels.as_slice();

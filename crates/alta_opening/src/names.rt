@@ -101,8 +101,11 @@ fn join(
     requires before { All IsPlaced behind.now }
     requires placed { IsPlaced row.now }
     requires names { AreNames names.old (live_behind deleted.now levels.now behind.now) }
-    ensures free { IfOk result (λ joins. joins ≡ may_join deleted.now (live_behind deleted.now levels.now behind.now) row.now) }
-    ensures names { IfOk result (λ joins. joins ≡ true → AreNames names.new (live_behind deleted.now levels.now behind.now ++ live_in deleted.now (row.now ∷ []))) }
+    ensures free { IfOk result (λ joins. joins
+        ≡ may_join deleted.now (live_behind deleted.now levels.now behind.now) row.now) }
+    ensures names { IfOk result (λ joins. joins ≡ true
+        → AreNames names.new (live_behind deleted.now levels.now behind.now
+        ++ live_in deleted.now (row.now ∷ []))) }
 {
     if is_deleted(deleted, row) {
         return Ok(true);
@@ -126,9 +129,11 @@ pub(crate) fn note_names(
 ) -> Result<(), LoadFault>
     requires rising { IsRising deleted.now }
     requires names { AreNames names.old (live_in deleted.now (table_rows levels.now)) }
-    ensures found { OnOk result (names_in deleted.now levels.now level.now ≡ Ok (live_behind deleted.now levels.now level.now.documents)) }
+    ensures found { OnOk result (names_in deleted.now levels.now level.now
+        ≡ Ok (live_behind deleted.now levels.now level.now.documents)) }
     ensures names { OnOk result (AreNames names.new (live_behind deleted.now levels.now level.now.documents)) }
-    ensures second { (place : ℕ) → result ≡ Err (Damaged place) → names_in deleted.now levels.now level.now ≡ Err place }
+    ensures second { (place : ℕ) → result ≡ Err (Damaged place)
+        → names_in deleted.now levels.now level.now ≡ Err place }
     ensures disk { result ≢ Err DiskFault }
 {
     let rows = level.documents();

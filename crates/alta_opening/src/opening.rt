@@ -53,19 +53,24 @@ pub fn open_levels<D: Disk>(
 ) -> Result<OpenLevels, LoadFault>
     requires { D.tells → (slot : Slot) × Counts slot root.now (D.state disk.old).content }
     ensures levels { D.tells → (slot : Slot) → Counts slot root.now (D.state disk.old).content
-        → IfOk result (λ found. HasLevels slot root.now found.deleted.items found.levels.items (D.state disk.old).content) }
+        → IfOk result (λ found. HasLevels slot root.now found.deleted.items found.levels.items
+        (D.state disk.old).content) }
     ensures extents { IfOk result (λ found. map extent_of found.levels.items ≡ root.now.levels.items) }
     ensures ends { IfOk result (λ found. have_ends found.levels.items found.deleted.items ≡ true) }
-    ensures names { IfOk result (λ found. AreNames found.names (live_in found.deleted.items (table_rows found.levels.items))) }
+    ensures names { IfOk result (λ found. AreNames found.names
+        (live_in found.deleted.items (table_rows found.levels.items))) }
     ensures rows { IfOk result (λ found. AreDocuments (table_rows found.levels.items)) }
     ensures below { IfOk result (λ found. AreBelow root.now (table_rows found.levels.items)) }
     ensures ordered { IfOk result (λ found. IsOrdered (known_at root.now found.deleted.items found.levels.items)) }
     ensures rising { IfOk result (λ found. IsRising found.deleted.items) }
-    ensures damaged { D.tells → (slot : Slot) → Counts slot root.now (D.state disk.old).content → (place : ℕ) → result ≡ Err (Damaged place)
+    ensures damaged { D.tells → (slot : Slot) → Counts slot root.now (D.state disk.old).content → (place : ℕ)
+        → result ≡ Err (Damaged place)
         → IsBrokenAt (D.state disk.old).content place }
-    ensures opened { D.tells → (opened : Opened) → IsOpened opened (D.state disk.old).content → (place : ℕ) → result ≡ Err (Damaged place) → ⊥ }
+    ensures opened { D.tells → (opened : Opened) → IsOpened opened (D.state disk.old).content → (place : ℕ)
+        → result ≡ Err (Damaged place) → ⊥ }
     ensures retrieves { Retrieves D.tells (whole_bytes root.now) (D.state disk.old) (D.state disk.new) result }
-    ensures taken { D.tells → (D.state disk.new).taken ≤ (D.state disk.old).taken + named_bytes root.now (D.state disk.old).content }
+    ensures taken { D.tells → (D.state disk.new).taken ≤ (D.state disk.old).taken
+        + named_bytes root.now (D.state disk.old).content }
 {
     let limit = disk.limit();
     let deleted = match read_list(alloc, disk, root, limit) {

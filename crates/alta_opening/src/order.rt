@@ -48,7 +48,8 @@ fn is_below(root: &Root, last: Last) -> bool
 pub(crate) fn are_placed(root: &Root, last: Last, rows: &[DocRow]) -> bool
     requires some { 0 < length rows.now }
     requires rows { AreDocuments rows.now }
-    ensures { (levels : List Tables) → AreDocuments (table_rows levels) → left_by last ≡ behind_rows start (table_rows levels) → result ≡ are_in_order root.now levels rows.now }
+    ensures { (levels : List Tables) → AreDocuments (table_rows levels)
+        → left_by last ≡ behind_rows start (table_rows levels) → result ≡ are_in_order root.now levels rows.now }
 {
     follows(last, &rows[0]) && is_below(root, last_of(rows))
 }

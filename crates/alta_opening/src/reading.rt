@@ -36,7 +36,8 @@ pub(crate) fn read_behind<D: Disk>(
 fn fill_from<D: Disk>(disk: &mut D, place: u64, all: &mut [u8], from: usize) -> Result<(), Failed>
     requires within { from ≤ length all.old }
     requires inside { D.tells → place + (length all.old - from) ≤ length (D.state disk.old).content }
-    ensures read { D.tells → OnOk result (all.new ≡ take from all.old ++ part place (length all.old - from) (D.state disk.old).content) }
+    ensures read { D.tells → OnOk result (all.new ≡ take from all.old
+        ++ part place (length all.old - from) (D.state disk.old).content) }
     ensures front { OnOk result (take from all.new ≡ take from all.old) }
     ensures cause { HasCause (D.state disk.old).faults (D.state disk.new).faults result }
     ensures reads { Reads D.tells (length all.old - from) (D.state disk.old) (D.state disk.new) }

@@ -38,7 +38,8 @@ pub(crate) fn read_tables<D: Disk>(
     ensures exact { D.tells → Answers (λ table. table) result (tables_at extent (D.state disk.old).content) }
     ensures extent { IfOk result (λ table. extent_of table ≡ extent) }
     ensures retrieves { Retrieves D.tells extent.bytes (D.state disk.old) (D.state disk.new) result }
-    ensures taken { D.tells → (D.state disk.new).taken ≤ (D.state disk.old).taken + level_bytes (D.state disk.old).content extent }
+    ensures taken { D.tells → (D.state disk.new).taken ≤ (D.state disk.old).taken
+        + level_bytes (D.state disk.old).content extent }
 {
     let mut front = [0; HEAD];
     disk.read(extent.place, &mut front)?;

@@ -31,7 +31,8 @@ fault_at at why = record { place = at; cause = why }
 abbrev pub number_fault : ℕ → ℕ → Result (ℕ × ℕ) CodeFault → (ℕ → ℕ → Option StreamFault) → Option StreamFault
 number_fault at before (Err f) next = Some (fault_at at (cause_of f))
 number_fault at before (Ok r) next =
-    cond (nat_eq r.0 0) (Some (fault_at at Zero)) (cond (nat_lt (before + r.0) TOP) (next r.1 (before + r.0)) (Some (fault_at at Top)))
+    cond (nat_eq r.0 0) (Some (fault_at at Zero))
+    (cond (nat_lt (before + r.0) TOP) (next r.1 (before + r.0)) (Some (fault_at at Top)))
 
 -- The first number that shows that the bytes spell no list. `at` is the place of the first of these bytes;
 -- `skip` of them belong to the number that was just read, and `before` is the location that it gave.
@@ -49,7 +50,8 @@ number_list before (Ok r) next = (before + r.0) ∷ next r.1 (before + r.0)
 unfoldable pub list_from : ℕ → ℕ → ℕ → List ℕ → List ℕ
 list_from at skip before [] = []
 list_from at (suc skip) before (b ∷ bs) = list_from (at + 1) skip before bs
-list_from at zero before (b ∷ bs) = number_list before (number_from 9 at (b ∷ bs)) (λ e y. list_from (at + 1) (e - (at + 1)) y bs)
+list_from at zero before (b ∷ bs) = number_list before (number_from 9 at (b ∷ bs))
+    (λ e y. list_from (at + 1) (e - (at + 1)) y bs)
 
 -- the first number of the bytes that shows that they spell no list, if one does
 unfoldable pub first_fault : List ℕ → Option StreamFault

@@ -7,7 +7,8 @@ use Rattle.alta_postings.specs.Deltas.{fault_from, list_from}
 -- At a place stands a number of one or of two bytes, if none is spelled too long: this number, up to this place.
 pub record IsShort (s : List ℕ) (at n next : ℕ) : Type 0 where
   pub one : slice_index s at < 128 → (n ≡ slice_index s at) × (next ≡ at + 1)
-  pub two : 128 ≤ slice_index s at → (slice_index s (at + 1) < 128) × (n ≡ slice_index s at - 128 + 128 * slice_index s (at + 1)) × (next ≡ at + 2)
+  pub two : 128 ≤ slice_index s at → (slice_index s (at + 1) < 128)
+      × (n ≡ slice_index s at - 128 + 128 * slice_index s (at + 1)) × (next ≡ at + 2)
 
 -- each of the eight bytes at a place is a number of its own, and none is 0
 abbrev pub AreGaps : List ℕ → ℕ → Type 0

@@ -95,7 +95,8 @@ pub record HasRowFields (bytes : List ℕ) (rows : List Row) (n : ℕ) : Type 0 
 pub record HasGroupFields (bytes : List ℕ) (rows : List Row) (n : ℕ) : Type 0 where
   pub sized : length bytes ≡ 8 * (3 * length rows + n)
   pub values : HasRowValues bytes rows (length rows)
-  pub group : (g : ℕ) → g < n → field_at bytes (3 * length rows + g) ≡ slice_index (lasts_of rows) (last_row (length rows) g)
+  pub group : (g : ℕ) → g < n → field_at bytes (3 * length rows + g)
+      ≡ slice_index (lasts_of rows) (last_row (length rows) g)
 
 -- how many of so many rows a table has: one alone has none
 abbrev pub kept_of : ℕ → ℕ

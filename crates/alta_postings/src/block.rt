@@ -32,7 +32,8 @@ pub struct BlockSpan {
 pub fn scan_block(bytes: &[u8], at: usize, before: u64) -> Result<BlockSpan, StreamFault>
     requires within { at < length bytes.now }
     requires low { before < TOP }
-    ensures { ReadsFrom bytes.now at before (λ span. IsBlockRead bytes.now at before span.first span.last span.count span.next) result }
+    ensures { ReadsFrom bytes.now at before
+        (λ span. IsBlockRead bytes.now at before span.first span.last span.count span.next) result }
 {
     let (first, _next) = read_location(bytes, at, before)?;
     let (mut next, mut last, mut count) = scan_runs(bytes, at, before);
@@ -59,7 +60,8 @@ pub fn fill_block(
 ) -> Result<BlockSpan, StreamFault>
     requires within { at < length bytes.now }
     requires low { before < TOP }
-    ensures reads { ReadsFrom bytes.now at before (λ span. IsBlockRead bytes.now at before span.first span.last span.count span.next) result }
+    ensures reads { ReadsFrom bytes.now at before
+        (λ span. IsBlockRead bytes.now at before span.first span.last span.count span.next) result }
     ensures filled { IfOk result (λ span. out.new.items ≡ take span.count (list_from at 0 before (drop at bytes.now))) }
     ensures rising { IfOk result (λ span. IsRising out.new.items) }
     ensures above { IfOk result (λ span. before < slice_index out.new.items 0) }

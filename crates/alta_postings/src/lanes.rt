@@ -54,7 +54,8 @@ fn last_long(lanes: u8x16) -> u64
 pub(crate) fn scan_lanes(bytes: &[u8], at: usize, before: u64) -> Option<(usize, u64, usize)>
     requires within { at + 16 < length bytes.now }
     requires low { before + REACH < TOP }
-    ensures read { IfSome result (λ r. (s y n : ℕ) → IsReadTo bytes.now s y before n at → IsReadTo bytes.now s y r.1 (n + r.2) r.0) }
+    ensures read { IfSome result (λ r. (s y n : ℕ) → IsReadTo bytes.now s y before n at
+        → IsReadTo bytes.now s y r.1 (n + r.2) r.0) }
     ensures few { IfSome result (λ r. r.2 ≤ 16) }
     ensures after { IfSome result (λ r. at < r.0) }
     ensures within { IfSome result (λ r. r.0 ≤ length bytes.now) }

@@ -31,7 +31,8 @@ fn fill_run(bytes: &[u8], at: usize, before: u64, out: &mut ArrayVec<u64, 64>) -
     requires gaps { AreGaps bytes.now at }
     requires low { before + 1016 < TOP }
     requires room { length out.old.items + 8 ≤ 64 }
-    ensures filled { (s y f : ℕ) → IsFilled bytes.now s y f before at out.old.items → IsFilled bytes.now s y f result (at + 8) out.new.items }
+    ensures filled { (s y f : ℕ) → IsFilled bytes.now s y f before at out.old.items
+        → IsFilled bytes.now s y f result (at + 8) out.new.items }
     ensures fits { length out.new.items ≡ length out.old.items + 8 }
 {
     let mut last = before;
@@ -52,7 +53,8 @@ pub(crate) fn fill_runs(
 ) -> (usize, u64)
     requires within { place ≤ length bytes.now }
     requires few { length out.old.items ≤ 64 }
-    ensures filled { (s y f : ℕ) → IsFilled bytes.now s y f first place out.old.items → IsFilled bytes.now s y f result.1 result.0 out.new.items }
+    ensures filled { (s y f : ℕ) → IsFilled bytes.now s y f first place out.old.items
+        → IsFilled bytes.now s y f result.1 result.0 out.new.items }
     ensures fits { length out.new.items ≤ 64 }
 {
     let mut at = place;

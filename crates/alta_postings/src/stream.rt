@@ -70,8 +70,10 @@ impl<'a> Stream<'a> {
     #[inline(always)]
     pub fn next(&self, place: usize, last: u64) -> Option<(u64, usize)>
         requires behind { (i : ℕ) × IsBehind (decoded_list self.now) i place last }
-        ensures next { IfSome result (λ r. (i : ℕ) → IsBehind (decoded_list self.now) i place last → IsNextOf (decoded_list self.now) i last r.0 r.1) }
-        ensures none { result ≡ None → (i : ℕ) → IsBehind (decoded_list self.now) i place last → i ≡ length (decoded_list self.now) }
+        ensures next { IfSome result (λ r. (i : ℕ) → IsBehind (decoded_list self.now) i place last
+            → IsNextOf (decoded_list self.now) i last r.0 r.1) }
+        ensures none { result ≡ None → (i : ℕ) → IsBehind (decoded_list self.now) i place last
+            → i ≡ length (decoded_list self.now) }
     {
         if place < self.near {
             return Some(near_location(self.bytes, place, last));

@@ -55,4 +55,5 @@ abbrev mutual
 
 -- a query that some text is read as, and that has no value, matches the cells exactly where it matches them without range terms
 abbrev pub SeesNoRanges : Type 0
-SeesNoRanges = (q : Shape) (name title body : List ℕ) → IsWellFormed q → HasNoValue q → Matches (cells_of name title body) q ↔ Matches (plain_cells_of name title body) q
+SeesNoRanges = (q : Shape) (name title body : List ℕ) → IsWellFormed q → HasNoValue q
+    → Matches (cells_of name title body) q ↔ Matches (plain_cells_of name title body) q

@@ -160,7 +160,8 @@ impl<'a> Machine<'a> {
     /// Reads an operand.
     fn operand(&mut self, alloc: Global, lent: Lent<'a>) -> Result<(), AllocError>
         requires { (state_of self.old).words + atom_weight (atom_in lent) ≤ 64 }
-        ensures state { OnOk result (state_of self.new ≡ operand_step (mode_of self.old.mode) (state_of self.old) (atom_in lent.entry)) }
+        ensures state { OnOk result (state_of self.new
+            ≡ operand_step (mode_of self.old.mode) (state_of self.old) (atom_in lent.entry)) }
         ensures text { OnOk result (AsksForText (made_of (mode_of self.old.mode) (atom_in lent.entry))) }
     {
         self.words += lent.weight();
@@ -180,7 +181,9 @@ impl<'a> Machine<'a> {
 
     /// An operand was read.
     fn give(&mut self, alloc: Global, operand: Query) -> Result<(), AllocError>
-        ensures { OnOk result (state_of self.new ≡ give has (shape operand) (state_of self.old).ors (state_of self.old).ands (state_of self.old).frames (state_of self.old).words) }
+        ensures { OnOk result (state_of self.new
+            ≡ give has (shape operand) (state_of self.old).ors (state_of self.old).ands (state_of self.old).frames
+            (state_of self.old).words) }
     {
         let operand = end_nots(alloc, &mut self.frames, operand)?;
         self.ands.push(operand)?;
@@ -312,8 +315,10 @@ fn whole(ors: Vec<Query>, ands: Vec<Query>) -> Result<Query, AllocError>
 
 /// Ends what is open up to the last `(`, and gives what was read before it.
 fn last_paren(frames: &mut Vec<Frame>) -> Option<(Vec<Query>, Vec<Query>)>
-    ensures paren { IfSome result (λ before. (q : Shape) (n : ℕ) → close q (frames_of frames.old.items) n ≡ give has q (map shape before.0.items) (map shape before.1.items) (frames_of frames.new.items) n) }
-    ensures none { IfNone result ((frames.new.items ≡ []) × ((q : Shape) (n : ℕ) → close q (frames_of frames.old.items) n ≡ close q [] n)) }
+    ensures paren { IfSome result (λ before. (q : Shape) (n : ℕ) → close q (frames_of frames.old.items) n
+        ≡ give has q (map shape before.0.items) (map shape before.1.items) (frames_of frames.new.items) n) }
+    ensures none { IfNone result ((frames.new.items ≡ [])
+        × ((q : Shape) (n : ℕ) → close q (frames_of frames.old.items) n ≡ close q [] n)) }
 {
     while let Some(frame) = frames.pop() {
         if let Frame::Paren(ors, ands) = frame {

@@ -59,7 +59,8 @@ fn put_query(alloc: Global, out: &mut String, query: &Query) -> Result<(), Alloc
 #[cycle(put)]
 #[tactic(auto, using(crate::proofs::Printed::with_tokens_append))]
 fn put_in(alloc: Global, out: &mut String, query: &Query, parens: bool) -> Result<(), AllocError>
-    ensures { OnOk result (string_bytes out.new ≡ with_tokens (string_bytes out.old) (parens_if parens (canon (shape query.now)))) }
+    ensures { OnOk result (string_bytes out.new
+        ≡ with_tokens (string_bytes out.old) (parens_if parens (canon (shape query.now)))) }
 {
     if parens {
         put_word(out, "(")?;
@@ -92,7 +93,8 @@ fn compound(query: &Query) -> bool
 }
 
 fn put_atom(alloc: Global, out: &mut String, atom: &Atom) -> Result<(), AllocError>
-    ensures { OnOk result (string_bytes out.new ≡ with_tokens (string_bytes out.old) (atom_tokens (atom_view atom.now))) }
+    ensures { OnOk result (string_bytes out.new
+        ≡ with_tokens (string_bytes out.old) (atom_tokens (atom_view atom.now))) }
 {
     match atom {
         Atom::Words { title, text, .. } => {
@@ -128,7 +130,8 @@ fn put_atom(alloc: Global, out: &mut String, atom: &Atom) -> Result<(), AllocErr
 }
 
 fn put_side(out: &mut String, side: &Side) -> Result<(), AllocError>
-    ensures { OnOk result (string_bytes out.new ≡ spaced (string_bytes out.old) ++ spelled (operand (of_side (side_view side.now)))) }
+    ensures { OnOk result (string_bytes out.new ≡ spaced (string_bytes out.old)
+        ++ spelled (operand (of_side (side_view side.now)))) }
 {
     put_space(out)?;
     match side {
@@ -198,5 +201,6 @@ fn put_space(out: &mut String) -> Result<(), AllocError>
 
 /// A law, and nothing to run: the canonical spelling of a query that some text spells is read as that query.
 pub fn reads_back()
-    ensures { (text : List ℕ) (q : Shape) → ReadsQuery (tokens_of (spots text)) q → ReadsQuery (tokens_of (spots (canonical q))) q }
+    ensures { (text : List ℕ) (q : Shape) → ReadsQuery (tokens_of (spots text)) q
+        → ReadsQuery (tokens_of (spots (canonical q))) q }
 {}

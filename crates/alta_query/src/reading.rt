@@ -67,11 +67,13 @@ pub fn parse(alloc: Global, text: &str) -> Result<Query, QueryFault>
     // What is read is in the grammar.
     ensures found { IfOk result (λ q. ReadsQuery (tokens_of (spots text.now)) (shape q)) }
     // What is in the grammar is read, unless memory runs out.
-    ensures only { (q : Shape) → ReadsQuery (tokens_of (spots text.now)) q → MatchResult result (λ r. shape r ≡ q) IsMemory }
+    ensures only { (q : Shape) → ReadsQuery (tokens_of (spots text.now)) q
+        → MatchResult result (λ r. shape r ≡ q) IsMemory }
     // A fault is the first one, unless memory runs out.
     ensures first { IfErr result (λ e. IsMemory e ⊎ (fault_of (spots text.now) (length text.now) ≡ Some (fault_in e))) }
     // The first fault is answered, unless memory runs out.
-    ensures answered { (f : Fault) → fault_of (spots text.now) (length text.now) ≡ Some f → MatchResult result (λ q. ⊥) (λ e. IsMemory e ⊎ (fault_in e ≡ f)) }
+    ensures answered { (f : Fault) → fault_of (spots text.now) (length text.now) ≡ Some f
+        → MatchResult result (λ q. ⊥) (λ e. IsMemory e ⊎ (fault_in e ≡ f)) }
     // Each term of what is read is UTF-8, but those of ranges.
     ensures text { IfOk result (λ q. HasTextTerms (shape q)) }
 {
@@ -88,7 +90,8 @@ pub fn one_or_other()
 /// that is its first fault.
 pub fn a_query_is_read_one_way()
     ensures read { (text : List ℕ) (q : Shape) → (query_of text ≡ Ok q) ↔ ReadsQuery (tokens_of (spots text)) q }
-    ensures refused { (text : List ℕ) (f : Fault) → (query_of text ≡ Err f) ↔ (fault_of (spots text) (length text) ≡ Some f) }
+    ensures refused { (text : List ℕ) (f : Fault) → (query_of text ≡ Err f)
+        ↔ (fault_of (spots text) (length text) ≡ Some f) }
 {}
 
 /// A law, and nothing to run: of a well-formed query, one that some UTF-8 text is read as, each And and Or has two members

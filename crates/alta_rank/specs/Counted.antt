@@ -15,6 +15,7 @@ unfoldable pub counted_each : List Use → List (List ℕ) → ℕ → ℕ → �
 counted_each uses lists last end first = sum_by (λ (u, list). counted u.title last end list first) (zip uses lists)
 
 -- No reader has passed a location above `end`, and those from index i on none at or above `first`.
-pub record AreBehind {R : Type 0} (list : R → List ℕ) (location : R → ℕ) (readers : List R) (i first end : ℕ) : Type 0 where
+pub record AreBehind {R : Type 0} (list : R → List ℕ) (location : R → ℕ) (readers : List R)
+    (i first end : ℕ) : Type 0 where
   pub all : All (λ r. pred_of (list r) (location r) ≤ end) readers
   pub rest : All (λ r. pred_of (list r) (location r) < first) (drop i readers)

@@ -10,7 +10,8 @@ pub record Scoring (R : Type 0) : Type 0 where
   pub asked : ℕ
 
 -- No reader has passed a location above the last end asked.
-pub record IsScoring {R : Type 0} (sound : R → Type 0) (list : R → List ℕ) (location : R → ℕ) (s : Scoring R) : Type 0 where
+pub record IsScoring {R : Type 0} (sound : R → Type 0) (list : R → List ℕ) (location : R → ℕ)
+    (s : Scoring R) : Type 0 where
   pub sound_readers : All sound s.readers
   pub sound_titles : sound s.titles
   pub paired : length s.uses ≡ length s.readers

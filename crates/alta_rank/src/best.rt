@@ -47,8 +47,10 @@ impl Best {
     /// it would not, those that are kept are also the first with it.
     pub fn has_place(&self, number: u64, score: u64) -> bool
         ensures place { result ≡ has_place self.now number score }
-        ensures left_out { result ≡ false → (every : List Scored) (name : List ℕ) → IsBest self.now.count every self.now.kept
-            → IsBest self.now.count (every ++ record { number = number; name = name; score = score } ∷ []) self.now.kept }
+        ensures left_out { result ≡ false → (every : List Scored) (name : List ℕ)
+            → IsBest self.now.count every self.now.kept
+            → IsBest self.now.count (every ++ record { number = number; name = name; score = score }
+            ∷ []) self.now.kept }
     {
         if (self.kept.len() as u64) < self.count {
             return true;
@@ -63,7 +65,8 @@ impl Best {
     /// it comes before that. Fails for want of memory alone.
     pub fn put(&mut self, answer: Scored) -> Result<(), AllocError>
         ensures count { self.new.count ≡ self.old.count }
-        ensures best { OnOk result ((every : List Scored) → IsBest self.old.count every self.old.kept → IsBest self.old.count (every ++ answer ∷ []) self.new.kept) }
+        ensures best { OnOk result ((every : List Scored) → IsBest self.old.count every self.old.kept
+            → IsBest self.old.count (every ++ answer ∷ []) self.new.kept) }
     {
         keep(&mut self.kept, answer, self.count)?;
         Ok(())
@@ -71,7 +74,8 @@ impl Best {
 
     /// The answers that are kept, in order: the first of all that came, if the numbers of those differ.
     pub fn into_sorted(self) -> Vec<Scored>
-        ensures { (every : List Scored) → AllPairs ◌≢◌ (map number_of every) → IsBest self.count every self.kept → result.items ≡ take self.count (ranked every) }
+        ensures { (every : List Scored) → AllPairs ◌≢◌ (map number_of every) → IsBest self.count every self.kept
+            → result.items ≡ take self.count (ranked every) }
     {
         self.kept.into_sorted_vec()
     }

@@ -22,7 +22,8 @@ pub fn a_score_is_of_the_cells()
 
 /// Where a query asks for one of its uses, exactly the documents that match it have a score.
 pub fn a_score_is_of_an_answer()
-    ensures { (q : Shape) (cells : List (List (List ℕ))) → asks_any_use q ≡ true → Matches cells q ↔ (0 < score_of (uses_of q) cells) }
+    ensures { (q : Shape) (cells : List (List (List ℕ))) → asks_any_use q ≡ true
+        → Matches cells q ↔ (0 < score_of (uses_of q) cells) }
 {}
 
 /// The answers in their order are the same answers, and none comes before the one in front of it.

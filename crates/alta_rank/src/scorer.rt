@@ -34,7 +34,8 @@ impl<R: BackReader> Model for Scorer<R> {
 
     ghost view = { λ s. record { readers = s.readers.items; uses = s.uses; titles = s.titles; asked = s.asked } };
 
-    ghost invariant = { λ s. IsScoring R.sound R.list R.location (record { readers = s.readers.items; uses = s.uses; titles = s.titles; asked = s.asked }) };
+    ghost invariant = { λ s. IsScoring R.sound R.list R.location
+        (record { readers = s.readers.items; uses = s.uses; titles = s.titles; asked = s.asked }) };
 }
 
 impl<R: BackReader> Scorer<R> {
@@ -45,7 +46,12 @@ impl<R: BackReader> Scorer<R> {
         requires unmoved { All (λ r. R.location r ≡ first_from (R.list r) 0) readers.items }
         requires sound_titles { R.sound titles }
         requires unmoved_titles { R.location titles ≡ first_from (R.list titles) 0 }
-        ensures ok { IfOk result (λ s. s ≡ record { readers = readers.items; uses = uses; titles = titles; asked = 0 }) }
+        ensures ok { IfOk result (λ s. s ≡ record {
+          readers = readers.items;
+          uses = uses;
+          titles = titles;
+          asked = 0;
+        }) }
         ensures err { IfErr result (λ e. (e.0 ≡ readers) × (e.1 ≡ uses) × (e.2 ≡ titles)) }
         ensures which { IsOk result ↔ (length readers.items ≡ length uses) }
     {
@@ -84,7 +90,8 @@ impl<R: BackReader> Scorer<R> {
         requires order { first ≤ end }
         requires top { end < TOP }
         requires fits { 4 * length self.old.uses * (end - first + 1) < 2 ^ 64 }
-        ensures score { result ≡ range_score self.old.uses (map R.list self.old.readers) (R.list self.old.titles) first end }
+        ensures score { result ≡ range_score self.old.uses (map R.list self.old.readers)
+            (R.list self.old.titles) first end }
         ensures uses { self.new.uses ≡ self.old.uses }
         ensures lists { map R.list self.new.readers ≡ map R.list self.old.readers }
         ensures titles { R.list self.new.titles ≡ R.list self.old.titles }

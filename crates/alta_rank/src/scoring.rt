@@ -33,7 +33,8 @@ pub(crate) fn last_to<R: BackReader, L: Ledger>(
     requires sound { R.sound reader.old }
     requires behind { pred_of (R.list reader.old) (R.location reader.old) ≤ end }
     requires top { end < TOP }
-    ensures reads { ReadsOn R.sound R.list R.left (λ r. pred_of (R.list r) (R.location r) ≤ end) reader.old reader.new steps.old steps.new }
+    ensures reads { ReadsOn R.sound R.list R.left (λ r. pred_of (R.list r) (R.location r)
+        ≤ end) reader.old reader.new steps.old steps.new }
     ensures last { result ≡ pred_of (R.list reader.old) (end + 1) }
 {
     if reader.loc() <= end {
@@ -47,7 +48,8 @@ fn reach<R: BackReader, L: Ledger>(reader: &mut R, first: Loc, steps: &mut Steps
     requires sound { R.sound reader.old }
     requires behind { pred_of (R.list reader.old) (R.location reader.old) < first }
     requires top { first ≤ TOP }
-    ensures { ReadsOn R.sound R.list R.left (λ r. R.location r ≡ first_from (R.list reader.old) first) reader.old reader.new steps.old steps.new }
+    ensures { ReadsOn R.sound R.list R.left (λ r. R.location r ≡ first_from (R.list reader.old) first) reader.old
+        reader.new steps.old steps.new }
 {
     if reader.loc() < first {
         reader.seek(first, steps);
@@ -68,7 +70,8 @@ fn score_list<R: BackReader, L: Ledger>(
     requires order { first ≤ end }
     requires top { end < TOP }
     requires fits { counted title last end (R.list reader.old) first < 2 ^ 64 }
-    ensures reads { ReadsOn R.sound R.list R.left (λ r. pred_of (R.list r) (R.location r) ≤ end) reader.old reader.new steps.old steps.new }
+    ensures reads { ReadsOn R.sound R.list R.left (λ r. pred_of (R.list r) (R.location r)
+        ≤ end) reader.old reader.new steps.old steps.new }
     ensures score { result ≡ counted title last end (R.list reader.old) first }
 {
     reach(reader, first, steps);
@@ -138,7 +141,8 @@ fn place_from<R: BackReader, L: Ledger>(reader: &mut R, first: Loc, steps: &mut 
     requires sound { R.sound reader.old }
     requires behind { pred_of (R.list reader.old) (R.location reader.old) < first }
     requires top { first ≤ TOP }
-    ensures reads { ReadsOn R.sound R.list R.left (λ r. pred_of (R.list r) (R.location r) < first) reader.old reader.new steps.old steps.new }
+    ensures reads { ReadsOn R.sound R.list R.left (λ r. pred_of (R.list r) (R.location r)
+        < first) reader.old reader.new steps.old steps.new }
     ensures place { result ≡ first_from (R.list reader.old) first }
 {
     reach(reader, first, steps);

@@ -14,7 +14,8 @@ use std::sync::ledger::Ledger;
 pub fn place_at<R: BackReader>(readers: &[R], j: usize) -> Loc
     requires sound { All R.sound readers.now }
     requires within { j < length readers.now }
-    ensures { IsReadAt (slice_index_or (map R.list readers.now) j []) (slice_index (map R.location readers.now) j) result }
+    ensures { IsReadAt (slice_index_or (map R.list readers.now) j [])
+        (slice_index (map R.location readers.now) j) result }
 {
     readers[j].loc()
 }
@@ -23,7 +24,8 @@ pub fn place_at<R: BackReader>(readers: &[R], j: usize) -> Loc
 pub fn prev_at<R: BackReader>(readers: &[R], j: usize) -> Loc
     requires sound { All R.sound readers.now }
     requires within { j < length readers.now }
-    ensures { IsLocation (pred_of (slice_index_or (map R.list readers.now) j []) (slice_index (map R.location readers.now) j)) result }
+    ensures { IsLocation (pred_of (slice_index_or (map R.list readers.now) j [])
+        (slice_index (map R.location readers.now) j)) result }
 {
     readers[j].prev()
 }
@@ -34,9 +36,12 @@ pub fn seek_at<R: BackReader, L: Ledger>(readers: &mut [R], j: usize, to: Loc, s
     requires within { j < length readers.old }
     requires above { slice_index (map R.location readers.old) j < to }
     requires top { to ≤ TOP }
-    ensures moves { MoveOn R.sound R.left (SeeksAlone R.list R.all R.location j to) readers.old readers.new steps.old steps.new }
-    ensures own { steps.new + count_from (slice_index_or (map R.all readers.old) j []) (first_from (slice_index_or (map R.list readers.old) j []) to)
-        ≤ steps.old + count_from (slice_index_or (map R.all readers.old) j []) (slice_index (map R.location readers.old) j) }
+    ensures moves { MoveOn R.sound R.left (SeeksAlone R.list R.all R.location j to) readers.old readers.new
+        steps.old steps.new }
+    ensures own { steps.new + count_from (slice_index_or (map R.all readers.old) j [])
+        (first_from (slice_index_or (map R.list readers.old) j []) to)
+        ≤ steps.old + count_from (slice_index_or (map R.all readers.old) j [])
+        (slice_index (map R.location readers.old) j) }
     ensures cost { steps.new ≤ steps.old + slice_index (map R.cost readers.old) j }
 {
     readers[j].seek(to, steps);

@@ -126,7 +126,8 @@ pub record MayLoad (tells : Type 0) (disk : DiskState) (store : Store) (kept : K
 
 -- It writes nothing, and reads no more than these lists have. It answers Ok only where they are whole, and damage exactly at the
 -- first fault among them; that yields to want of memory, and to a fault of the disk, which is counted.
-pub record Loads {X : Type 0} (tells : Type 0) (loads : List Load) (before after : DiskState) (result : Result X StoreFault) : Type 0 where
+pub record Loads {X : Type 0} (tells : Type 0) (loads : List Load) (before after : DiskState)
+    (result : Result X StoreFault) : Type 0 where
   pub reads : Reads tells (load_sizes loads) before after
   pub only : IfErr result (λ e. IsOutside e ⊎ ((place : ℕ) × (e ≡ Damaged place)))
   pub whole : tells → IfOk result (λ x. All (IsWhole before.content) loads)
@@ -135,14 +136,16 @@ pub record Loads {X : Type 0} (tells : Type 0) (loads : List Load) (before after
   pub cause : result ≡ Err Disk → Rose before.faults after.faults
 
 -- Lists are loaded for a store: damage comes only where the disk stands for no state, and what is known afterwards holds.
-pub record LoadsKept {X : Type 0} (tells : Type 0) (store : Store) (kept_now : KeptLists) (loads : List Load) (before after : DiskState) (result : Result X StoreFault) : Type 0 where
+pub record LoadsKept {X : Type 0} (tells : Type 0) (store : Store) (kept_now : KeptLists) (loads : List Load)
+    (before after : DiskState) (result : Result X StoreFault) : Type 0 where
   pub loaded : Loads tells loads before after result
   pub undamaged : (s : State) → tells → StandsFor s before.content → IfErr result IsOutside
   pub known : KeptHolds tells after store kept_now
 
 -- A call that answers a text by the lists that it loads for a store. No disk is called for it where it is idle, and for none that it
 -- refuses; then what is known is as it was.
-pub record Queries {D : Type 0} (tells : Type 0) (state : D → DiskState) (disk disk_now : D) (store : Store) (kept kept_now : KeptLists) (loads : List Load) (idle : Type 0) (result : Result (List ℕ) StoreFault) : Type 0 where
+pub record Queries {D : Type 0} (tells : Type 0) (state : D → DiskState) (disk disk_now : D) (store : Store)
+    (kept kept_now : KeptLists) (loads : List Load) (idle : Type 0) (result : Result (List ℕ) StoreFault) : Type 0 where
   pub loading : LoadsKept tells store kept_now loads (state disk) (state disk_now) result
   pub refused : IfOk result (λ reply. IsRefusal reply → (disk_now ≡ disk) × (kept_now ≡ kept))
   pub idles : idle → (disk_now ≡ disk) × IfErr result (λ e. e ≡ Memory)

@@ -14,7 +14,8 @@ pub record Turns (turn : Turn) (cursors : List OpenCursor) (result : Result (Lis
   pub open_now : OnOk result (AreOpen cursors turn.0)
 
 -- A call on cursors alone comes to a turn of what is open. It fails for want of memory alone, and where it refuses, the cursors are as they were.
-pub record TurnsCursors (turn : List OpenAnswers → Turn) (cursors cursors_now : List OpenCursor) (result : Result (List ℕ) StoreFault) : Type 0 where
+pub record TurnsCursors (turn : List OpenAnswers → Turn) (cursors cursors_now : List OpenCursor)
+    (result : Result (List ℕ) StoreFault) : Type 0 where
   pub turned : (all : List OpenAnswers) → AreOpen cursors all → Turns (turn all) cursors_now result
   pub memory : IfErr result (λ e. e ≡ Memory)
   pub refused : IfOk result (λ reply. IsRefusal reply → cursors_now ≡ cursors)

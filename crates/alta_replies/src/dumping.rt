@@ -30,8 +30,10 @@ pub fn dump<D: Disk>(
     kept: &mut KeptLists,
 ) -> Result<Text, StoreFault>
     requires { MayLoad D.tells (D.state disk.old) store.now kept.old }
-    ensures reply { (s : State) → D.tells → StandsFor s (D.state disk.old).content → IfOk result (λ reply. reply ≡ dump_of s) }
-    ensures queries { Queries D.tells D.state disk.old disk.new store.now kept.old kept.new (order_loads store.now dump_tests) ⊥ result }
+    ensures reply { (s : State) → D.tells → StandsFor s (D.state disk.old).content
+        → IfOk result (λ reply. reply ≡ dump_of s) }
+    ensures queries { Queries D.tells D.state disk.old disk.new store.now kept.old kept.new
+        (order_loads store.now dump_tests) ⊥ result }
 {
     let Ok(order) = dump_order(alloc) else {
         return Err(StoreFault::Memory);

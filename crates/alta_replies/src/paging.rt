@@ -39,9 +39,11 @@ pub fn open<D: Disk>(
     text: &str,
 ) -> Result<Text, StoreFault>
     requires { MayLoad D.tells (D.state disk.old) store.now kept.old }
-    ensures turned { (s : State) (all : List OpenAnswers) → D.tells → StandsFor s (D.state disk.old).content → AreOpen cursors.old all → Turns (opening text.now s.documents all) cursors.new result }
+    ensures turned { (s : State) (all : List OpenAnswers) → D.tells → StandsFor s (D.state disk.old).content
+        → AreOpen cursors.old all → Turns (opening text.now s.documents all) cursors.new result }
     ensures kept { IfOk result (λ reply. IsRefusal reply → cursors.new ≡ cursors.old) }
-    ensures queries { Queries D.tells D.state disk.old disk.new store.now kept.old kept.new (open_loads store.now cursors.old text.now) (IsNoQuery text.now ⊎ (CURSORS ≤ length cursors.old)) result }
+    ensures queries { Queries D.tells D.state disk.old disk.new store.now kept.old kept.new
+        (open_loads store.now cursors.old text.now) (IsNoQuery text.now ⊎ (CURSORS ≤ length cursors.old)) result }
 {
     let query = match parse(alloc, text) {
         Ok(query) => query,
@@ -62,10 +64,13 @@ fn open_query<D: Disk>(
     query: &Query,
 ) -> Result<Text, StoreFault>
     requires { MayLoad D.tells (D.state disk.old) store.now kept.old }
-    ensures turned { (s : State) (all : List OpenAnswers) → D.tells → StandsFor s (D.state disk.old).content → AreOpen cursors.old all
+    ensures turned { (s : State) (all : List OpenAnswers) → D.tells → StandsFor s (D.state disk.old).content
+        → AreOpen cursors.old all
         → Turns (opened_over (answers s.documents (shape query.now)) all) cursors.new result }
     ensures kept { IfOk result (λ reply. IsRefusal reply → cursors.new ≡ cursors.old) }
-    ensures queries { Queries D.tells D.state disk.old disk.new store.now kept.old kept.new (if nat_le CURSORS (length cursors.old) then [] else search_loads store.now (plan_of (shape query.now))) (CURSORS ≤ length cursors.old) result }
+    ensures queries { Queries D.tells D.state disk.old disk.new store.now kept.old kept.new
+        (if nat_le CURSORS (length cursors.old) then [] else search_loads store.now (plan_of (shape query.now)))
+        (CURSORS ≤ length cursors.old) result }
 {
     if cursors.is_full() {
         return text(alloc, "! too many cursors\n");
@@ -87,10 +92,13 @@ fn put_cursor<D: Disk>(
 ) -> Result<u64, StoreFault>
     requires may { MayLoad D.tells (D.state disk.old) store.now kept.old }
     requires room { length cursors.old < CURSORS }
-    ensures opened { (s : State) (all : List OpenAnswers) → D.tells → StandsFor s (D.state disk.old).content → AreOpen cursors.old all
+    ensures opened { (s : State) (all : List OpenAnswers) → D.tells → StandsFor s (D.state disk.old).content
+        → AreOpen cursors.old all
         → OnOk result (AreOpen cursors.new (with_opened (answers s.documents (shape query.now)) all)) }
-    ensures number { IfOk result (λ number. (all : List OpenAnswers) → AreOpen cursors.old all → number ≡ least_free all) }
-    ensures loads { LoadsKept D.tells store.now kept.new (search_loads store.now (plan_of (shape query.now))) (D.state disk.old) (D.state disk.new) result }
+    ensures number { IfOk result (λ number. (all : List OpenAnswers) → AreOpen cursors.old all
+        → number ≡ least_free all) }
+    ensures loads { LoadsKept D.tells store.now kept.new (search_loads store.now (plan_of (shape query.now)))
+        (D.state disk.old) (D.state disk.new) result }
 {
     let (plan, snapshot) = match plan_and_load(alloc, disk, store, kept, query) {
         Ok(planned) => planned,
@@ -163,7 +171,8 @@ fn take_page<L: Ledger>(
 
 // The answers of a page, a line for each, and whether more are left.
 fn listed(alloc: Global, page: &Page) -> Result<String, AllocError>
-    ensures { IfOk result (λ reply. string_bytes reply ≡ row_lines page.now.answers ++ (if page.now.more then codes "more\n" else codes "end\n")) }
+    ensures { IfOk result (λ reply. string_bytes reply ≡ row_lines page.now.answers
+        ++ (if page.now.more then codes "more\n" else codes "end\n")) }
 {
     let mut reply = String::new(alloc);
     put_answers(&mut reply, &page.answers)?;

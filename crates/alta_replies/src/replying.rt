@@ -80,7 +80,8 @@ pub(crate) fn put_answers(reply: &mut String, answers: &Answers) -> Result<(), A
 }
 
 fn put_answer(reply: &mut String, number: u64, name: &str) -> Result<(), AllocError>
-    ensures { OnOk result (string_bytes reply.new ≡ string_bytes reply.old ++ decimal number ++ codes " " ++ name.now ++ codes "\n") }
+    ensures { OnOk result (string_bytes reply.new ≡ string_bytes reply.old ++ decimal number ++ codes " "
+        ++ name.now ++ codes "\n") }
 {
     write!(reply, "{number} {name}\n")
 }
@@ -96,7 +97,8 @@ pub(crate) fn put_scores(reply: &mut String, answers: &[Scored]) -> Result<(), A
 }
 
 fn put_score(reply: &mut String, number: u64, name: &str, score: u64) -> Result<(), AllocError>
-    ensures { OnOk result (string_bytes reply.new ≡ string_bytes reply.old ++ decimal number ++ codes " " ++ name.now ++ codes " " ++ decimal score ++ codes "\n") }
+    ensures { OnOk result (string_bytes reply.new ≡ string_bytes reply.old ++ decimal number ++ codes " " ++ name.now
+        ++ codes " " ++ decimal score ++ codes "\n") }
 {
     write!(reply, "{number} {name} {score}\n")
 }

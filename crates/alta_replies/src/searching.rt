@@ -53,8 +53,10 @@ pub fn search<D: Disk>(
     text: &str,
 ) -> Result<Text, StoreFault>
     requires { MayLoad D.tells (D.state disk.old) store.now kept.old }
-    ensures reply { (s : State) → D.tells → StandsFor s (D.state disk.old).content → IfOk result (λ reply. reply ≡ searching text.now s.documents) }
-    ensures queries { Queries D.tells D.state disk.old disk.new store.now kept.old kept.new (text_loads store.now text.now) (IsNoQuery text.now) result }
+    ensures reply { (s : State) → D.tells → StandsFor s (D.state disk.old).content
+        → IfOk result (λ reply. reply ≡ searching text.now s.documents) }
+    ensures queries { Queries D.tells D.state disk.old disk.new store.now kept.old kept.new
+        (text_loads store.now text.now) (IsNoQuery text.now) result }
 {
     let query = match parse(alloc, text) {
         Ok(query) => query,
@@ -75,8 +77,10 @@ pub fn count<D: Disk>(
     text: &str,
 ) -> Result<Text, StoreFault>
     requires { MayLoad D.tells (D.state disk.old) store.now kept.old }
-    ensures reply { (s : State) → D.tells → StandsFor s (D.state disk.old).content → IfOk result (λ reply. reply ≡ counting text.now s.documents) }
-    ensures queries { Queries D.tells D.state disk.old disk.new store.now kept.old kept.new (text_loads store.now text.now) (IsNoQuery text.now) result }
+    ensures reply { (s : State) → D.tells → StandsFor s (D.state disk.old).content
+        → IfOk result (λ reply. reply ≡ counting text.now s.documents) }
+    ensures queries { Queries D.tells D.state disk.old disk.new store.now kept.old kept.new
+        (text_loads store.now text.now) (IsNoQuery text.now) result }
 {
     let query = match parse(alloc, text) {
         Ok(query) => query,
@@ -99,8 +103,10 @@ pub fn rank<D: Disk>(
     text: &str,
 ) -> Result<Text, StoreFault>
     requires { MayLoad D.tells (D.state disk.old) store.now kept.old }
-    ensures reply { (s : State) → D.tells → StandsFor s (D.state disk.old).content → IfOk result (λ reply. reply ≡ ranking count text.now s.documents) }
-    ensures queries { Queries D.tells D.state disk.old disk.new store.now kept.old kept.new (top_text_loads store.now text.now) (IsNoQuery text.now) result }
+    ensures reply { (s : State) → D.tells → StandsFor s (D.state disk.old).content
+        → IfOk result (λ reply. reply ≡ ranking count text.now s.documents) }
+    ensures queries { Queries D.tells D.state disk.old disk.new store.now kept.old kept.new
+        (top_text_loads store.now text.now) (IsNoQuery text.now) result }
 {
     let query = match parse(alloc, text) {
         Ok(query) => query,
@@ -128,7 +134,8 @@ pub fn explain(alloc: Global, text: &str) -> Result<Text, StoreFault>
 // The canonical spelling of a query, and the lines of its plan.
 fn with_plan(alloc: Global, query: &Query) -> Result<String, AllocError>
     requires { HasTextTerms (shape query.now) }
-    ensures { IfOk result (λ reply. string_bytes reply ≡ canonical (shape query.now) ++ codes "\n" ++ explained [] (plan_of (shape query.now))) }
+    ensures { IfOk result (λ reply. string_bytes reply ≡ canonical (shape query.now) ++ codes "\n"
+        ++ explained [] (plan_of (shape query.now))) }
 {
     a_plan_is_text();
     let canonical = print(alloc, query)?;
@@ -152,8 +159,10 @@ fn search_and_list<D: Disk>(
     query: &Query,
 ) -> Result<Text, StoreFault>
     requires { MayLoad D.tells (D.state disk.old) store.now kept.old }
-    ensures reply { (s : State) → D.tells → StandsFor s (D.state disk.old).content → IfOk result (λ reply. reply ≡ found_by s.documents (Ok (shape query.now))) }
-    ensures queries { Queries D.tells D.state disk.old disk.new store.now kept.old kept.new (search_loads store.now (plan_of (shape query.now))) ⊥ result }
+    ensures reply { (s : State) → D.tells → StandsFor s (D.state disk.old).content
+        → IfOk result (λ reply. reply ≡ found_by s.documents (Ok (shape query.now))) }
+    ensures queries { Queries D.tells D.state disk.old disk.new store.now kept.old kept.new
+        (search_loads store.now (plan_of (shape query.now))) ⊥ result }
 {
     match plan_and_load(alloc, disk, store, kept, query) {
         Ok((plan, snapshot)) => {
@@ -175,7 +184,8 @@ fn all_listed(
 ) -> Result<String, AllocError>
     requires tests { snapshot.now.tests ≡ tests_of (tree plan.now) }
     requires query { tree plan.now ≡ plan_of (shape query.now) }
-    ensures lines { IfOk result (λ reply. (documents : List Document) → AreToCome (tree plan.now) snapshot.now 0 documents
+    ensures lines { IfOk result (λ reply. (documents : List Document)
+        → AreToCome (tree plan.now) snapshot.now 0 documents
         → string_bytes reply ≡ answer_lines documents ++ found_line (length documents)) }
     ensures other { IfOk result (λ reply. ¬ (IsRefusal (string_bytes reply))) }
 {
@@ -195,8 +205,10 @@ fn search_and_count<D: Disk>(
     query: &Query,
 ) -> Result<Text, StoreFault>
     requires { MayLoad D.tells (D.state disk.old) store.now kept.old }
-    ensures reply { (s : State) → D.tells → StandsFor s (D.state disk.old).content → IfOk result (λ reply. reply ≡ counted_by s.documents (Ok (shape query.now))) }
-    ensures queries { Queries D.tells D.state disk.old disk.new store.now kept.old kept.new (search_loads store.now (plan_of (shape query.now))) ⊥ result }
+    ensures reply { (s : State) → D.tells → StandsFor s (D.state disk.old).content
+        → IfOk result (λ reply. reply ≡ counted_by s.documents (Ok (shape query.now))) }
+    ensures queries { Queries D.tells D.state disk.old disk.new store.now kept.old kept.new
+        (search_loads store.now (plan_of (shape query.now))) ⊥ result }
 {
     match plan_and_load(alloc, disk, store, kept, query) {
         Ok((plan, snapshot)) => {
@@ -218,7 +230,8 @@ fn all_counted(
 ) -> Result<String, AllocError>
     requires tests { snapshot.now.tests ≡ tests_of (tree plan.now) }
     requires query { tree plan.now ≡ plan_of (shape query.now) }
-    ensures lines { IfOk result (λ reply. (documents : List Document) → AreToCome (tree plan.now) snapshot.now 0 documents → string_bytes reply ≡ found_line (length documents)) }
+    ensures lines { IfOk result (λ reply. (documents : List Document)
+        → AreToCome (tree plan.now) snapshot.now 0 documents → string_bytes reply ≡ found_line (length documents)) }
     ensures other { IfOk result (λ reply. ¬ (IsRefusal (string_bytes reply))) }
 {
     let count = all_tallied(alloc, plan, query, snapshot)?;
@@ -238,8 +251,10 @@ fn search_and_rank<D: Disk>(
 ) -> Result<Text, StoreFault>
     requires may { MayLoad D.tells (D.state disk.old) store.now kept.old }
     requires read { IsWellFormed (shape query.now) }
-    ensures reply { (s : State) → D.tells → StandsFor s (D.state disk.old).content → IfOk result (λ reply. reply ≡ ranked_by count s.documents (Ok (shape query.now))) }
-    ensures queries { Queries D.tells D.state disk.old disk.new store.now kept.old kept.new (top_loads store.now (plan_of (shape query.now))) ⊥ result }
+    ensures reply { (s : State) → D.tells → StandsFor s (D.state disk.old).content
+        → IfOk result (λ reply. reply ≡ ranked_by count s.documents (Ok (shape query.now))) }
+    ensures queries { Queries D.tells D.state disk.old disk.new store.now kept.old kept.new
+        (top_loads store.now (plan_of (shape query.now))) ⊥ result }
 {
     match plan_and_load_for_top(alloc, disk, store, kept, query) {
         Ok((plan, snapshot)) => {
@@ -264,7 +279,8 @@ fn all_ranked(
     requires query { tree plan.now ≡ plan_of (shape query.now) }
     requires read { IsWellFormed (shape query.now) }
     ensures lines { IfOk result (λ reply. (documents : List Document) → AreToRank (tree plan.now) snapshot.now documents
-        → string_bytes reply ≡ score_lines (take count (ranked (map (scored (uses_of (shape query.now))) documents))) ++ found_line (length documents)) }
+        → string_bytes reply ≡ score_lines (take count (ranked (map (scored (uses_of (shape query.now))) documents)))
+        ++ found_line (length documents)) }
     ensures other { IfOk result (λ reply. ¬ (IsRefusal (string_bytes reply))) }
 {
     let best = all_best(alloc, plan, query, snapshot, count)?;
@@ -291,8 +307,10 @@ pub(crate) fn plan_and_load<D: Disk>(
     requires { MayLoad D.tells (D.state disk.old) store.now kept.old }
     ensures plan { IfOk result (λ found. tree found.0 ≡ plan_of (shape query.now)) }
     ensures tests { IfOk result (λ found. found.1.tests ≡ tests_of (tree found.0)) }
-    ensures answers { (s : State) → D.tells → StandsFor s (D.state disk.old).content → IfOk result (λ found. AreToCome (tree found.0) found.1 0 (answers s.documents (shape query.now))) }
-    ensures loads { LoadsKept D.tells store.now kept.new (search_loads store.now (plan_of (shape query.now))) (D.state disk.old) (D.state disk.new) result }
+    ensures answers { (s : State) → D.tells → StandsFor s (D.state disk.old).content
+        → IfOk result (λ found. AreToCome (tree found.0) found.1 0 (answers s.documents (shape query.now))) }
+    ensures loads { LoadsKept D.tells store.now kept.new (search_loads store.now (plan_of (shape query.now)))
+        (D.state disk.old) (D.state disk.new) result }
 {
     let Ok(plan) = compile(alloc, query) else {
         return Err(StoreFault::Memory);
@@ -323,7 +341,8 @@ fn plan_and_load_for_top<D: Disk>(
     ensures tests { IfOk result (λ found. found.1.tests ≡ tests_of (tree found.0) ++ title_end ∷ []) }
     ensures answers { (s : State) → D.tells → StandsFor s (D.state disk.old).content
         → IfOk result (λ found. AreToRank (tree found.0) found.1 (answers s.documents (shape query.now))) }
-    ensures loads { LoadsKept D.tells store.now kept.new (top_loads store.now (plan_of (shape query.now))) (D.state disk.old) (D.state disk.new) result }
+    ensures loads { LoadsKept D.tells store.now kept.new (top_loads store.now (plan_of (shape query.now)))
+        (D.state disk.old) (D.state disk.new) result }
 {
     let Ok(plan) = compile(alloc, query) else {
         return Err(StoreFault::Memory);
@@ -351,11 +370,14 @@ pub(crate) fn load<D: Disk>(
 ) -> Result<Snapshot, StoreFault>
     requires { MayLoad D.tells (D.state disk.old) store.now kept.old }
     ensures tests { IfOk result (λ snapshot. snapshot.tests ≡ used order) }
-    ensures answers { (s : State) (q : Shape) → D.tells → StandsFor s (D.state disk.old).content → IfOk result (λ snapshot. AreToCome (plan_of q) snapshot 0 (answers s.documents q)) }
+    ensures answers { (s : State) (q : Shape) → D.tells → StandsFor s (D.state disk.old).content
+        → IfOk result (λ snapshot. AreToCome (plan_of q) snapshot 0 (answers s.documents q)) }
     ensures ranked { (s : State) (q : Shape) → D.tells → StandsFor s (D.state disk.old).content
         → IfOk result (λ snapshot. AreToRank (plan_of q) snapshot (answers s.documents q)) }
-    ensures shown { (s : State) → D.tells → StandsFor s (D.state disk.old).content → IfOk result (λ snapshot. ShowsDocuments snapshot s.documents) }
-    ensures loads { LoadsKept D.tells store.now kept.new (order_loads store.now (used order)) (D.state disk.old) (D.state disk.new) result }
+    ensures shown { (s : State) → D.tells → StandsFor s (D.state disk.old).content
+        → IfOk result (λ snapshot. ShowsDocuments snapshot s.documents) }
+    ensures loads { LoadsKept D.tells store.now kept.new (order_loads store.now (used order)) (D.state disk.old)
+        (D.state disk.new) result }
 {
     a_search_sees_the_state::<D>();
     let Ok(sources) = store.sources() else {
@@ -382,7 +404,8 @@ fn all_found(
 ) -> Result<Page, AllocError>
     requires tests { snapshot.now.tests ≡ tests_of (tree plan.now) }
     requires query { tree plan.now ≡ plan_of (shape query.now) }
-    ensures { IfOk result (λ page. (space : List Placed) → Shows space snapshot.now → page.answers ≡ map answer_of (coming space (tree plan.now) snapshot.now 0)) }
+    ensures { IfOk result (λ page. (space : List Placed) → Shows space snapshot.now
+        → page.answers ≡ map answer_of (coming space (tree plan.now) snapshot.now 0)) }
 {
     found::<Brand>(alloc, plan, query, snapshot, Blank::new(1))
 }
@@ -399,7 +422,8 @@ fn found<L: Ledger>(
     requires name { blank.name ≡ L.name }
     requires parts { blank.parts ≡ L.parts }
     requires shared { 0 < L.parts }
-    ensures { IfOk result (λ page. (space : List Placed) → Shows space snapshot.now → page.answers ≡ map answer_of (coming space (tree plan.now) snapshot.now 0)) }
+    ensures { IfOk result (λ page. (space : List Placed) → Shows space snapshot.now
+        → page.answers ≡ map answer_of (coming space (tree plan.now) snapshot.now 0)) }
 {
     let mut steps = Steps::<L>::new(blank);
     let page = alta_search::search(alloc, plan, query, snapshot, &mut steps)?;
@@ -415,7 +439,8 @@ fn all_tallied(
 ) -> Result<u64, AllocError>
     requires tests { snapshot.now.tests ≡ tests_of (tree plan.now) }
     requires query { tree plan.now ≡ plan_of (shape query.now) }
-    ensures { IfOk result (λ n. (space : List Placed) → Shows space snapshot.now → n ≡ length (coming space (tree plan.now) snapshot.now 0)) }
+    ensures { IfOk result (λ n. (space : List Placed) → Shows space snapshot.now
+        → n ≡ length (coming space (tree plan.now) snapshot.now 0)) }
 {
     tallied::<Brand>(alloc, plan, query, snapshot, Blank::new(1))
 }
@@ -432,7 +457,8 @@ fn tallied<L: Ledger>(
     requires name { blank.name ≡ L.name }
     requires parts { blank.parts ≡ L.parts }
     requires shared { 0 < L.parts }
-    ensures { IfOk result (λ n. (space : List Placed) → Shows space snapshot.now → n ≡ length (coming space (tree plan.now) snapshot.now 0)) }
+    ensures { IfOk result (λ n. (space : List Placed) → Shows space snapshot.now
+        → n ≡ length (coming space (tree plan.now) snapshot.now 0)) }
 {
     let mut steps = Steps::<L>::new(blank);
     let count = alta_search::count(alloc, plan, query, snapshot, &mut steps)?;
@@ -450,7 +476,8 @@ fn all_best(
     requires tests { snapshot.now.tests ≡ tests_of (tree plan.now) ++ title_end ∷ [] }
     requires query { tree plan.now ≡ plan_of (shape query.now) }
     requires read { IsWellFormed (shape query.now) }
-    ensures { IfOk result (λ top. (documents : List Document) → AreToRank (tree plan.now) snapshot.now documents → AreBest (uses_of (shape query.now)) documents count top) }
+    ensures { IfOk result (λ top. (documents : List Document) → AreToRank (tree plan.now) snapshot.now documents
+        → AreBest (uses_of (shape query.now)) documents count top) }
 {
     best::<Brand>(alloc, plan, query, snapshot, count, Blank::new(1))
 }
@@ -469,7 +496,8 @@ fn best<L: Ledger>(
     requires parts { blank.parts ≡ L.parts }
     requires read { IsWellFormed (shape query.now) }
     requires shared { 0 < L.parts }
-    ensures { IfOk result (λ top. (documents : List Document) → AreToRank (tree plan.now) snapshot.now documents → AreBest (uses_of (shape query.now)) documents count top) }
+    ensures { IfOk result (λ top. (documents : List Document) → AreToRank (tree plan.now) snapshot.now documents
+        → AreBest (uses_of (shape query.now)) documents count top) }
 {
     let mut steps = Steps::<L>::new(blank);
     let top = alta_search::top(alloc, plan, query, snapshot, count, &mut steps)?;

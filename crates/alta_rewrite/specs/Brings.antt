@@ -20,7 +20,8 @@ pub record Names (slot : Slot) (root : Root) (pieces : List Piece) (coming : Ope
   pub named : (middle : List ℕ) → Puts slot pieces old middle → IsNamed coming middle
 
 -- Wherever these pieces are put, the root was written with these levels, which have this state.
-pub record Brings (slot : Slot) (root : Root) (pieces : List Piece) (coming : Opened) (levels : List Level) (s : State) (old : List ℕ) : Type 0 where
+pub record Brings (slot : Slot) (root : Root) (pieces : List Piece) (coming : Opened) (levels : List Level) (s : State)
+    (old : List ℕ) : Type 0 where
   pub slot_is : coming.slot ≡ slot
   pub root_is : coming.root ≡ root
   pub written : (middle : List ℕ) → Puts slot pieces old middle → IsWritten coming levels middle

@@ -19,18 +19,22 @@ use Rattle.alta_rewrite.specs.declared.piece.Piece.{Piece}
 -- a piece brings these bytes to an extent, or they stand there already, where the root that counts has them
 abbrev pub WillStand : Root → List Piece → List ℕ → Extent → List ℕ → Type 0
 WillStand earlier pieces old extent bytes =
-    ((piece : Piece) × Contains pieces piece × (piece.extent ≡ extent) × (piece.bytes.now ≡ bytes)) ⊎ (Contains (extents_of earlier) extent × (bytes_at extent old ≡ bytes))
+    ((piece : Piece) × Contains pieces piece × (piece.extent ≡ extent) × (piece.bytes.now ≡ bytes))
+    ⊎ (Contains (extents_of earlier) extent × (bytes_at extent old ≡ bytes))
 
 -- the segment of the level will stand at its extent
 abbrev pub LevelComes : Root → List Piece → List ℕ → Level → Type 0
-LevelComes earlier pieces old level = (bytes : List ℕ) × WillStand earlier pieces old level.extent bytes × IsSegment bytes level.content
+LevelComes earlier pieces old level = (bytes : List ℕ) × WillStand earlier pieces old level.extent bytes
+    × IsSegment bytes level.content
 
 -- nothing is deleted and there is no list, or what spells it will stand at its extent
 abbrev pub ListComes : Root → List Piece → List ℕ → Extent → List ℕ → Type 0
-ListComes earlier pieces old list deleted = ((list ≡ no_extent) × (deleted ≡ [])) ⊎ ((bytes : List ℕ) × WillStand earlier pieces old list bytes × Spells bytes deleted)
+ListComes earlier pieces old list deleted = ((list ≡ no_extent) × (deleted ≡ []))
+    ⊎ ((bytes : List ℕ) × WillStand earlier pieces old list bytes × Spells bytes deleted)
 
 -- Of the root to come and these levels all comes by the pieces, or stays of the root that counts, and the journal is empty.
-pub record Comes (slot : Slot) (root : Root) (pieces : List Piece) (coming : Opened) (levels : List Level) (earlier : Root) (old : List ℕ) : Type 0 where
+pub record Comes (slot : Slot) (root : Root) (pieces : List Piece) (coming : Opened) (levels : List Level)
+    (earlier : Root) (old : List ℕ) : Type 0 where
   pub slot_is : coming.slot ≡ slot
   pub root_is : coming.root ≡ root
   pub extents : root.levels.items ≡ map (λ (l : Level). l.extent) levels
@@ -44,7 +48,8 @@ pub record Comes (slot : Slot) (root : Root) (pieces : List Piece) (coming : Ope
 
 -- an extent of so many bytes at least, of a piece or of the root that counts
 abbrev pub IsPlaced : ℕ → Root → List Piece → Extent → Type 0
-IsPlaced least earlier pieces extent = (least ≤ extent.bytes) × (Contains (extents_in pieces) extent ⊎ Contains (extents_of earlier) extent)
+IsPlaced least earlier pieces extent = (least ≤ extent.bytes)
+    × (Contains (extents_in pieces) extent ⊎ Contains (extents_of earlier) extent)
 
 -- A root comes just behind the one that counts, with the last version, its numbers keep the rules on slots, and its extents are placed and do not meet.
 pub record IsMade (earlier root : Root) (pieces : List Piece) : Type 0 where

@@ -39,7 +39,8 @@ list_to_come root ends None = cond (bytes_eq ends.deleted.now ends.listed.now) r
 
 -- the extents that stay, between the new ones
 abbrev pub extents_to_come : Root → ℕ → Places → List Extent
-extents_to_come root stay_from places = as_list places.oldest ++ (drop stay_from root.levels.items ++ as_list places.newest)
+extents_to_come root stay_from places =
+    as_list places.oldest ++ (drop stay_from root.levels.items ++ as_list places.newest)
 
 -- the last version, the next sequence, number and location, and the levels to come
 abbrev pub root_to_come : Root → Ends → ℕ → ℕ → ℕ → Places → Root
@@ -55,16 +56,20 @@ root_to_come root ends stay_from next location places = record {
 -- the tables of a level at its place
 abbrev pub table_to_come : Option Extent → Content → Option Tables
 table_to_come None content = None
-table_to_come (Some extent) content = Some (record { place = extent.place; documents = content.documents; terms = rows_of content.lists })
+table_to_come (Some extent) content = Some
+    (record { place = extent.place; documents = content.documents; terms = rows_of content.lists })
 
 -- ---- what is to be written
 
 -- the places of what is written anew
 abbrev pub rewrite_places : ℕ → Root → NextLevels → Ends → Result Places Full
-rewrite_places limit root levels ends = places_for limit root (length (segment_of levels.oldest)) (length (segment_of levels.newest)) (length (list_of ends))
+rewrite_places limit root levels ends =
+    places_for limit root (length (segment_of levels.oldest)) (length (segment_of levels.newest))
+    (length (list_of ends))
 
 -- what is written anew, and the root to come
-pub record IsDraft (limit : ℕ) (root : Root) (levels : NextLevels) (ends : Ends) (next location : ℕ) (draft : Draft) : Type 0 where
+pub record IsDraft (limit : ℕ) (root : Root) (levels : NextLevels) (ends : Ends) (next location : ℕ)
+    (draft : Draft) : Type 0 where
   pub parts : IsPart levels.oldest × IsPart levels.newest
   pub oldest : draft.oldest.items ≡ segment_of levels.oldest
   pub newest : draft.newest.items ≡ segment_of levels.newest
@@ -79,7 +84,8 @@ abbrev pub Drafts : ℕ → Root → NextLevels → Ends → ℕ → ℕ → Res
 Drafts limit root levels ends next location (Ok draft) = IsDraft limit root levels ends next location draft
 Drafts limit root levels ends next location (Err faults.Disk) = ⊥
 Drafts limit root levels ends next location (Err faults.Memory) = Unit {0}
-Drafts limit root levels ends next location (Err (faults.Full need gap)) = rewrite_places limit root levels ends ≡ Err (record { need = need; gap = gap })
+Drafts limit root levels ends next location (Err (faults.Full need gap)) =
+    rewrite_places limit root levels ends ≡ Err (record { need = need; gap = gap })
 
 -- ---- pieces
 
@@ -93,4 +99,5 @@ pairs_in pieces = map (λ (p : Piece). (p.extent, p.bytes.now)) pieces
 
 -- the segments and the list of a draft
 abbrev pub pieces_of : Draft → List (Extent × List ℕ)
-pieces_of draft = piece_of draft.places.oldest draft.oldest.items ++ (piece_of draft.places.newest draft.newest.items ++ piece_of draft.places.list draft.list)
+pieces_of draft = piece_of draft.places.oldest draft.oldest.items
+    ++ (piece_of draft.places.newest draft.newest.items ++ piece_of draft.places.list draft.list)

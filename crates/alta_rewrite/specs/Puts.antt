@@ -41,7 +41,8 @@ pub record IsLaid (taken : List Extent) (limit size : ℕ) (before : List Piece)
 -- each piece has one behind those before it
 abbrev pub AreLaid : List Extent → ℕ → ℕ → List Piece → List Piece → Type 0
 AreLaid taken limit size before [] = Unit {0}
-AreLaid taken limit size before (piece ∷ pieces) = IsLaid taken limit size before piece × AreLaid taken limit size (before ++ piece ∷ []) pieces
+AreLaid taken limit size before (piece ∷ pieces) = IsLaid taken limit size before piece
+    × AreLaid taken limit size (before ++ piece ∷ []) pieces
 
 -- The other slot counts, the root comes just behind its root, with the last version, and keeps the rules once the pieces are there, and these have gaps
 -- beside what its root names.
@@ -86,4 +87,5 @@ pub record Prepares (slot : Slot) (pieces : List Piece) (old new : List ℕ) : T
 -- What a stop may leave while a root is put: pieces, gate and slot in part, where no other root counts yet; or else all of the
 -- pieces with the gate, and a switch of the root in part.
 abbrev pub Putting : Slot → Root → List Piece → List ℕ → List ℕ → Type 0
-Putting slot root pieces old new = Prepares slot pieces old new ⊎ ((middle : List ℕ) × Puts slot pieces old middle × Switches slot root middle new)
+Putting slot root pieces old new = Prepares slot pieces old new
+    ⊎ ((middle : List ℕ) × Puts slot pieces old middle × Switches slot root middle new)

@@ -28,7 +28,8 @@ use Rattle.alta_rewrite.specs.declared.rewriting.Rewritten.{Rewritten}
 
 -- the levels to come of a view: those from an index on stay, one content comes in place of those before, and one behind all
 abbrev pub levels_to_come : NextLevels → View → List Coming
-levels_to_come levels view = coming levels.oldest ++ (map stays (drop levels.stay_from view.levels) ++ coming levels.newest)
+levels_to_come levels view = coming levels.oldest
+    ++ (map stays (drop levels.stay_from view.levels) ++ coming levels.newest)
 
 abbrev pub contents_to_come : NextLevels → View → List Content
 contents_to_come levels view = map content_to_come (levels_to_come levels view)
@@ -53,7 +54,8 @@ pub record IsGiven (view : View) (levels : NextLevels) (ends : Ends) (next locat
   pub documents : documents_left view (contents_to_come levels view) ≡ (state_of view).documents
 
 -- An image has what is held, and a rewrite is given what its view says.
-pub record MayRewrite (held : Holding) (levels : NextLevels) (ends : Ends) (next location : ℕ) (image : List ℕ) : Type 0 where
+pub record MayRewrite (held : Holding) (levels : NextLevels) (ends : Ends) (next location : ℕ)
+    (image : List ℕ) : Type 0 where
   pub is : IsHeld held image
   pub given : IsGiven held.view levels ends next location
 
@@ -67,12 +69,14 @@ tables_between oldest stay_from tables newest = tables_in oldest ++ (drop stay_f
 
 -- A rewrite gives this, and the image has it then: in the other slot counts the answered root, whose new levels have the answered
 -- tables.
-pub record IsRewritten (limit : ℕ) (slot : Slot) (held : Holding) (levels : NextLevels) (job : Option Job) (then : Holding) (done : Rewritten) (image : List ℕ) : Type 0 where
+pub record IsRewritten (limit : ℕ) (slot : Slot) (held : Holding) (levels : NextLevels) (job : Option Job)
+    (then : Holding) (done : Rewritten) (image : List ℕ) : Type 0 where
   pub switched_is : switched limit held (levels_to_come levels held.view) job ≡ Ok then
   pub is : IsHeld then image
   pub slot_is : done.slot ≡ other slot
   pub counts : Counts done.slot done.root image
-  pub tables : map tables_by then.view.levels ≡ tables_between done.oldest levels.stay_from (map tables_by held.view.levels) done.newest
+  pub tables : map tables_by then.view.levels
+      ≡ tables_between done.oldest levels.stay_from (map tables_by held.view.levels) done.newest
 
 -- ---- levels in place of others
 
@@ -93,29 +97,34 @@ pub record HaveRows (o : Opened) (there : List Level) : Type 0 where
   pub rows : map (λ (t : Tables). t.documents) o.levels ≡ map (λ (l : Level). l.content.documents) there
 
 -- An image is opened as this, and a rewrite is given what its rows and entries say.
-pub record MayRewriteOpened (o : Opened) (there : List Level) (levels : NextLevels) (ends : Ends) (next location : ℕ) (image : List ℕ) : Type 0 where
+pub record MayRewriteOpened (o : Opened) (there : List Level) (levels : NextLevels) (ends : Ends) (next location : ℕ)
+    (image : List ℕ) : Type 0 where
   pub is : IsOpened o image
   pub have : HaveRows o there
   pub given : IsGiven (view_of o there) levels ends next location
 
 -- What is opened once a rewrite is done: the other slot counts, with the root to come; its list has the deleted ends, its levels are
 -- those that stay between the new ones, and its journal is empty.
-pub record IsComing (limit : ℕ) (o coming : Opened) (levels : NextLevels) (ends : Ends) (next location : ℕ) : Type 0 where
+pub record IsComing (limit : ℕ) (o coming : Opened) (levels : NextLevels) (ends : Ends)
+    (next location : ℕ) : Type 0 where
   pub places : Places
   pub places_are : rewrite_places limit o.root levels ends ≡ Ok places
   pub slot_is : coming.slot ≡ other o.slot
   pub root_is : coming.root ≡ root_to_come o.root ends levels.stay_from next location places
   pub deleted_are : coming.deleted ≡ ends.deleted.now
-  pub levels_are : coming.levels ≡ tables_between (table_to_come places.oldest levels.oldest) levels.stay_from o.levels (table_to_come places.newest levels.newest)
+  pub levels_are : coming.levels ≡ tables_between (table_to_come places.oldest levels.oldest) levels.stay_from o.levels
+      (table_to_come places.newest levels.newest)
   pub entries_are : coming.entries ≡ []
   pub tail_is : coming.tail ≡ half_start coming.slot
 
 -- the image is opened as before, or as once the rewrite is done
 abbrev pub MayBecome : ℕ → Opened → NextLevels → Ends → ℕ → ℕ → List ℕ → Type 0
-MayBecome limit o levels ends next location image = IsOpened o image ⊎ ((coming : Opened) × IsComing limit o coming levels ends next location × IsOpened coming image)
+MayBecome limit o levels ends next location image = IsOpened o image
+    ⊎ ((coming : Opened) × IsComing limit o coming levels ends next location × IsOpened coming image)
 
 -- A rewrite gives this, and the image is opened as what comes.
-pub record IsRewrittenOpened (limit : ℕ) (o coming : Opened) (levels : NextLevels) (ends : Ends) (next location : ℕ) (done : Rewritten) (image : List ℕ) : Type 0 where
+pub record IsRewrittenOpened (limit : ℕ) (o coming : Opened) (levels : NextLevels) (ends : Ends) (next location : ℕ)
+    (done : Rewritten) (image : List ℕ) : Type 0 where
   pub coming_is : IsComing limit o coming levels ends next location
   pub is : IsOpened coming image
   pub slot_is : done.slot ≡ coming.slot

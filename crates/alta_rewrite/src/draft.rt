@@ -91,7 +91,8 @@ fn push_level(levels: &mut ArrayVec<Extent, 16>, level: Option<Extent>)
 
 // The extents that stay, between the new ones.
 fn next_levels(root: &Root, stay_from: usize, places: Places) -> ArrayVec<Extent, 16>
-    requires few { length (as_list places.oldest) + (length root.now.levels.items - stay_from) + length (as_list places.newest) ≤ 16 }
+    requires few { length (as_list places.oldest) + (length root.now.levels.items - stay_from)
+        + length (as_list places.newest) ≤ 16 }
     requires index { stay_from ≤ length root.now.levels.items }
     ensures { result.items ≡ extents_to_come root.now stay_from places }
 {
@@ -113,7 +114,8 @@ fn next_root(
     location: Loc,
     places: Places,
 ) -> Root
-    requires few { length (as_list places.oldest) + (length root.now.levels.items - stay_from) + length (as_list places.newest) ≤ 16 }
+    requires few { length (as_list places.oldest) + (length root.now.levels.items - stay_from)
+        + length (as_list places.newest) ≤ 16 }
     requires index { stay_from ≤ length root.now.levels.items }
     ensures { result ≡ root_to_come root.now ends.entry stay_from next location places }
 {
@@ -134,7 +136,8 @@ fn open_segment(alloc: Global, segment: &[u8], extent: Extent) -> Result<OpenLev
     requires segment { (content : Content) × IsSegment segment.now content }
     requires bytes { extent.bytes ≡ length segment.now }
     requires below { extent.place + extent.bytes < 2 ^ 64 }
-    ensures { (content : Content) → IsSegment segment.now content → IfOk result (λ table. Some table ≡ table_to_come (Some extent) content) }
+    ensures { (content : Content) → IsSegment segment.now content
+        → IfOk result (λ table. Some table ≡ table_to_come (Some extent) content) }
 {
     let Ok(found) = head(segment, extent.place, extent.bytes) else {
         unreachable!()
@@ -157,7 +160,8 @@ fn open_level(
     requires segment { IfSome place (λ _. (content : Content) × IsSegment segment.now content) }
     requires bytes { IfSome place (λ extent. extent.bytes ≡ length segment.now) }
     requires below { IfSome place (λ extent. extent.place + extent.bytes < 2 ^ 64) }
-    ensures { (content : Content) → IfSome place (λ _. IsSegment segment.now content) → IfOk result (λ level. level ≡ table_to_come place content) }
+    ensures { (content : Content) → IfSome place (λ _. IsSegment segment.now content)
+        → IfOk result (λ level. level ≡ table_to_come place content) }
 {
     match place {
         Some(extent) => Ok(Some(open_segment(alloc, segment, extent)?)),
@@ -180,7 +184,8 @@ pub(crate) fn make_draft(
     requires oldest { IsPart levels.oldest }
     requires newest { IsPart levels.newest }
     requires index { levels.stay_from ≤ length root.now.levels.items }
-    requires few { length (coming levels.oldest) + (length root.now.levels.items - levels.stay_from) + length (coming levels.newest) ≤ 16 }
+    requires few { length (coming levels.oldest) + (length root.now.levels.items - levels.stay_from)
+        + length (coming levels.newest) ≤ 16 }
     requires rising { IsRising ends.deleted.now }
     ensures { Drafts limit root.now levels ends.entry next location result }
 {

@@ -49,21 +49,30 @@ pub(crate) fn put_root<D: Disk>(
     requires fits { All (Fills (D.state disk.old).limit) pieces.now }
     requires limit { HEAD_BYTES ≤ (D.state disk.old).limit }
 
-    ensures put { D.tells → OnOk result ((middle : List ℕ) × Puts slot pieces.now (D.state disk.old).content middle × Switched slot root.now middle (D.state disk.new).content) }
+    ensures put { D.tells → OnOk result ((middle : List ℕ) × Puts slot pieces.now (D.state disk.old).content middle
+        × Switched slot root.now middle (D.state disk.new).content) }
 
     // At each moment of the call.
     ensures syncs { Syncs 1 (Putting slot root.now pieces.now) (D.state disk.old) (D.state disk.new) result }
 
     // What an image is opened as then, and what it stands for.
-    ensures opened { (o coming : Opened) → (D.tells → IsOpened o (D.state disk.old).content) → (D.tells → Names slot root.now pieces.now coming (D.state disk.old).content)
+    ensures opened { (o coming : Opened) → (D.tells → IsOpened o (D.state disk.old).content)
+        → (D.tells → Names slot root.now pieces.now coming (D.state disk.old).content)
         → LeavesOnly (IsOpenedEither o coming) (D.state disk.old) (D.state disk.new) }
-    ensures opened_then { (coming : Opened) → D.tells → Names slot root.now pieces.now coming (D.state disk.old).content → OnOk result (IsOpened coming (D.state disk.new).content) }
-    ensures stands { (s t : State) → (coming : Opened) → (levels : List Level) → (D.tells → StandsFor s (D.state disk.old).content)
-        → (D.tells → Brings slot root.now pieces.now coming levels t (D.state disk.old).content) → LeavesOnly (StandsForEither s t) (D.state disk.old) (D.state disk.new) }
-    ensures stands_then { (t : State) → (coming : Opened) → (levels : List Level) → D.tells → Brings slot root.now pieces.now coming levels t (D.state disk.old).content
+    ensures opened_then { (coming : Opened) → D.tells
+        → Names slot root.now pieces.now coming (D.state disk.old).content
+        → OnOk result (IsOpened coming (D.state disk.new).content) }
+    ensures stands { (s t : State) → (coming : Opened) → (levels : List Level)
+        → (D.tells → StandsFor s (D.state disk.old).content)
+        → (D.tells → Brings slot root.now pieces.now coming levels t (D.state disk.old).content)
+        → LeavesOnly (StandsForEither s t) (D.state disk.old) (D.state disk.new) }
+    ensures stands_then { (t : State) → (coming : Opened) → (levels : List Level) → D.tells
+        → Brings slot root.now pieces.now coming levels t (D.state disk.old).content
         → OnOk result (StandsFor t (D.state disk.new).content) }
-    ensures held { (then : Holding) → (coming : Opened) → D.tells → Brings slot root.now pieces.now coming then.view.levels (state_of then.view) (D.state disk.old).content
-        → then.view ≡ view_of coming then.view.levels → then.list ≡ coming.root.deletions → OnOk result (IsHeld then (D.state disk.new).content) }
+    ensures held { (then : Holding) → (coming : Opened) → D.tells
+        → Brings slot root.now pieces.now coming then.view.levels (state_of then.view) (D.state disk.old).content
+        → then.view ≡ view_of coming then.view.levels → then.list ≡ coming.root.deletions
+        → OnOk result (IsHeld then (D.state disk.new).content) }
 {
     put(disk, slot, pieces)?;
     switch(disk, slot, root)
@@ -72,7 +81,8 @@ pub(crate) fn put_root<D: Disk>(
 // Writes the pieces, and closes the gate.
 fn put<D: Disk>(disk: &mut D, slot: Slot, pieces: &[Piece<'_>]) -> Result<(), Failed>
     requires whole { D.tells → HEAD_BYTES ≤ length (D.state disk.old).content }
-    requires laid { D.tells → (taken : List Extent) × AreLaid taken (D.state disk.old).limit (length (D.state disk.old).content) [] pieces.now }
+    requires laid { D.tells → (taken : List Extent)
+        × AreLaid taken (D.state disk.old).limit (length (D.state disk.old).content) [] pieces.now }
     requires fits { All (Fills (D.state disk.old).limit) pieces.now }
     requires limit { HEAD_BYTES ≤ (D.state disk.old).limit }
     ensures put { D.tells → OnOk result (Puts slot pieces.now (D.state disk.old).content (D.state disk.new).content) }
@@ -86,7 +96,8 @@ fn put<D: Disk>(disk: &mut D, slot: Slot, pieces: &[Piece<'_>]) -> Result<(), Fa
 
 // Writes each piece at its extent.
 fn write_pieces<D: Disk>(disk: &mut D, pieces: &[Piece<'_>]) -> Result<(), Failed>
-    requires laid { D.tells → (taken : List Extent) × AreLaid taken (D.state disk.old).limit (length (D.state disk.old).content) [] pieces.now }
+    requires laid { D.tells → (taken : List Extent)
+        × AreLaid taken (D.state disk.old).limit (length (D.state disk.old).content) [] pieces.now }
     requires fits { All (Fills (D.state disk.old).limit) pieces.now }
     ensures written { D.tells → OnOk result (Writes pieces.now (D.state disk.old).content (D.state disk.new).content) }
     ensures images { Passes (Touches (ranges_in pieces.now)) (D.state disk.old) (D.state disk.new) }

@@ -52,8 +52,10 @@ pub fn rewrite<D: Disk>(
     requires switch { CanSwitch D.tells slot root.now (D.state disk.old) }
     requires names { CanName root.now levels ends next location }
 
-    ensures held { RewritesHeld D.tells slot levels ends.entry next location (D.state disk.old) (D.state disk.new) result }
-    ensures opened { RewritesOpened D.tells levels ends.entry next location (D.state disk.old) (D.state disk.new) result }
+    ensures held { RewritesHeld D.tells slot levels ends.entry next location (D.state disk.old)
+        (D.state disk.new) result }
+    ensures opened { RewritesOpened D.tells levels ends.entry next location (D.state disk.old)
+        (D.state disk.new) result }
     ensures answers { IfOk result (AnswersRoot slot root.now levels next location) }
     ensures nothing { WritesNothing (D.state disk.old).limit root.now levels ends.entry disk.old disk.new result }
     ensures disk { SwitchesDisk D.tells root.now (D.state disk.old) (D.state disk.new) result }

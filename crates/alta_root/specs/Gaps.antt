@@ -39,7 +39,8 @@ abbrev pub is_beside : ℕ → ℕ → Extent → Bool
 is_beside at bytes extent = nat_le (at + bytes) extent.place || nat_le (extent.place + extent.bytes) at
 
 abbrev pub is_gap : List Extent → ℕ → ℕ → ℕ → Bool
-is_gap extents bytes limit at = nat_le HEAD_BYTES at && nat_le (at + bytes) limit && list_all (is_beside at bytes) extents
+is_gap extents bytes limit at = nat_le HEAD_BYTES at && nat_le (at + bytes) limit
+    && list_all (is_beside at bytes) extents
 
 abbrev pub least_with : Option ℕ → ℕ → ℕ
 least_with None x = x

@@ -35,7 +35,8 @@ pub fn read_roots<D: Disk>(disk: &mut D) -> Result<Roots, RootFault>
     ensures sound { D.tells → IfOk result (λ roots. IsSound (length (D.state disk.old).content) roots.root) }
     ensures kept { IfOk result (λ roots. (size : ℕ) × IsSound size roots.root) }
     ensures long { OnOk result (HEAD_BYTES ≤ (D.state disk.old).limit) }
-    ensures exact { D.tells → (answer : Result Roots RootFault) → Shows (D.state disk.old).content answer → (result ≡ Err DiskFault) ⊎ (result ≡ answer) }
+    ensures exact { D.tells → (answer : Result Roots RootFault) → Shows (D.state disk.old).content answer
+        → (result ≡ Err DiskFault) ⊎ (result ≡ answer) }
     ensures cause { result ≡ Err DiskFault → Rose (D.state disk.old).faults (D.state disk.new).faults }
     ensures reads { Reads D.tells (2 * READ_BYTES) (D.state disk.old) (D.state disk.new) }
 {
@@ -78,7 +79,8 @@ fn shown(first: &[u8], second: &[u8], size: u64) -> Result<Roots, RootFault>
 // What a slot says, None where it is closed.
 fn read_slot(bytes: &[u8], slot: Slot, size: u64) -> Result<Option<Root>, RootFault>
     requires { length bytes.now ≡ READ_BYTES }
-    ensures says { (image : List ℕ) → bytes.now ≡ slot_bytes slot image → size ≡ length image → SaysIfOpen slot image result }
+    ensures says { (image : List ℕ) → bytes.now ≡ slot_bytes slot image → size ≡ length image
+        → SaysIfOpen slot image result }
     ensures disk { result ≡ Err DiskFault → ⊥ }
 {
     if !is_open(bytes) {

@@ -33,12 +33,15 @@ pub fn switch<D: Disk>(disk: &mut D, slot: Slot, root: &Root) -> Result<(), Fail
     requires follows { D.tells → MayFollow slot root.now (D.state disk.old).content }
     requires limit { HEAD_BYTES ≤ (D.state disk.old).limit }
 
-    ensures switched { D.tells → OnOk result (Switched slot root.now (D.state disk.old).content (D.state disk.new).content) }
-    ensures written { D.tells → OnOk result (part (slot_start slot) SLOT_BYTES (D.state disk.new).content ≡ GATE_OPEN ∷ body_of root.now) }
+    ensures switched { D.tells → OnOk result
+        (Switched slot root.now (D.state disk.old).content (D.state disk.new).content) }
+    ensures written { D.tells → OnOk result (part (slot_start slot) SLOT_BYTES (D.state disk.new).content
+        ≡ GATE_OPEN ∷ body_of root.now) }
     ensures counts { OnOk result (Stands D.tells (D.state disk.new) (Counts slot root.now)) }
 
     // At each moment of the call.
-    ensures syncs { Syncs 1 (Switching slot root.now (D.state disk.old).content) (D.state disk.old) (D.state disk.new) result }
+    ensures syncs { Syncs 1 (Switching slot root.now (D.state disk.old).content) (D.state disk.old)
+        (D.state disk.new) result }
 {
     let body = spell(root);
     close(disk, slot)?;
@@ -71,8 +74,10 @@ fn close<D: Disk>(disk: &mut D, slot: Slot) -> Result<(), Failed>
 fn write_body<D: Disk>(disk: &mut D, slot: Slot, body: &[u8]) -> Result<(), Failed>
     requires inside { D.tells → slot_start slot + 1 ≤ length (D.state disk.old).content }
     requires fits { slot_start slot + 1 + length body.now ≤ (D.state disk.old).limit }
-    ensures written { D.tells → OnOk result (Holds (D.state disk.old).content (slot_start slot + 1) body.now (D.state disk.new).content) }
-    ensures syncs { Syncs 0 (Torn (slot_start slot + 1) (length body.now)) (D.state disk.old) (D.state disk.new) result }
+    ensures written { D.tells → OnOk result
+        (Holds (D.state disk.old).content (slot_start slot + 1) body.now (D.state disk.new).content) }
+    ensures syncs { Syncs 0 (Torn (slot_start slot + 1) (length body.now)) (D.state disk.old)
+        (D.state disk.new) result }
 {
     write_synced(disk, slot.start() + 1, body)
 }

@@ -53,7 +53,8 @@ has_lists tests low high u = nat_lt 0 (length (between low high (levels_of tests
 
 -- the ends of the documents that have each word and none of the negated words
 abbrev pub having_all : List TestLists → ℕ → List ℕ → List ℕ → List ℕ
-having_all tests ends words negated = ends_having (whole_at tests ends) (map (whole_at tests) words) (map (whole_at tests) negated)
+having_all tests ends words negated = ends_having (whole_at tests ends) (map (whole_at tests) words)
+    (map (whole_at tests) negated)
 
 -- ---- what is asked of the words of a document
 
@@ -64,7 +65,8 @@ ends_for (Walked followed) ends words negated = ends_asked followed ends words
 
 -- by the indexes of the tests
 abbrev pub ends_at : List TestLists → Asking → ℕ → List ℕ → List ℕ → List ℕ
-ends_at tests asking ends words negated = ends_for asking (whole_at tests ends) (map (whole_at tests) words) (map (whole_at tests) negated)
+ends_at tests asking ends words negated =
+    ends_for asking (whole_at tests ends) (map (whole_at tests) words) (map (whole_at tests) negated)
 
 -- it can be asked of these words: only a conjunction has negated words
 abbrev pub CanAsk : Asking → List ℕ → List ℕ → Type 0
@@ -87,11 +89,17 @@ passed_size lists uses place = sum_by (λ u. length (concat (take (cut_at place 
 
 -- Between two places the steps are at most a step a list and one a location; where a word leads, for each list four and twice its
 -- locations.
-pub record AreWindowSteps (lists : ℕ → List (List ℕ)) (uses : List ℕ) (leading : Option ℕ) (low high before after : ℕ) : Type 0 where
-  pub steps : after + passed_lists lists uses low + passed_size lists uses low ≤ before + passed_lists lists uses high + passed_size lists uses high
-  pub moves : (n : ℕ) → leading ≡ Some n → after + passed_lists lists uses low * (2 * n + 4) ≤ before + passed_lists lists uses high * (2 * n + 4)
+pub record AreWindowSteps (lists : ℕ → List (List ℕ)) (uses : List ℕ) (leading : Option ℕ)
+    (low high before after : ℕ) : Type 0 where
+  pub steps : after + passed_lists lists uses low + passed_size lists uses low
+      ≤ before + passed_lists lists uses high + passed_size lists uses high
+  pub moves : (n : ℕ) → leading ≡ Some n → after + passed_lists lists uses low * (2 * n + 4)
+      ≤ before + passed_lists lists uses high * (2 * n + 4)
 
 -- Where memory was there, these are as many as a conjunction finds over a snapshot that were not deleted.
-pub record CountsConjunction {E : Type 0} (c : Conjunction) (v : View) (before after : ℕ) (result : Result ℕ E) : Type 0 where
-  pub count : IfOk result (λ n. (space : List Placed) → Shows space v → n ≡ count_live (ends_having (ends_of space) (map (list_of space) c.words) (map (list_of space) c.negated)) v.gone 0)
+pub record CountsConjunction {E : Type 0} (c : Conjunction) (v : View) (before after : ℕ)
+    (result : Result ℕ E) : Type 0 where
+  pub count : IfOk result (λ n. (space : List Placed) → Shows space v
+      → n ≡ count_live (ends_having (ends_of space) (map (list_of space) c.words)
+      (map (list_of space) c.negated)) v.gone 0)
   pub steps : AreSearchSteps (Some c) v before after

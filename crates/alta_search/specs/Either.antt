@@ -23,4 +23,5 @@ seconds (a ∷ b ∷ xs) = b ∷ seconds xs
 pub record IsEither (p : plan.Tree) (words : List Test) : Type 0 where
   pub tests : tests_of p ≡ either_tests words
   pub exact : All IsExact (tests_of p)
-  pub finds : (space : List Placed) → IsSpace space → plan_list space p ≡ ends_with_any (ends_of space) (map (list_of space) words)
+  pub finds : (space : List Placed) → IsSpace space → plan_list space p
+      ≡ ends_with_any (ends_of space) (map (list_of space) words)

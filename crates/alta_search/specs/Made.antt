@@ -19,13 +19,15 @@ pub record IsMadeReader {R : Type 0} (before after : ℕ) (r : R) (IsSound IsSo 
   pub steps : after ≡ before + 1
 
 -- Where memory was there, sound readers of so many lists were made, which stand so, by a step a list; else by no more.
-pub record MakesReaders {A E : Type 0} (n before after : ℕ) (result : Result A E) (IsSound IsSo : A → Type 0) : Type 0 where
+pub record MakesReaders {A E : Type 0} (n before after : ℕ) (result : Result A E)
+    (IsSound IsSo : A → Type 0) : Type 0 where
   pub sound : IfOk result IsSound
   pub start : IfOk result IsSo
   pub exact : IfOk result (λ _. after ≡ before + n)
   pub most : after ≤ before + n
 
 -- Where memory was there, the trees of these plans were made of the first of these lists; a step was added for each at most.
-pub record Plants {A E : Type 0} (cuts : List (List (List (List ℕ)))) (plans : List Tree) (before after : ℕ) (result : Result A E) (rest : A → List (List (List (List ℕ)))) (trees : A → List read.Tree) : Type 0 where
+pub record Plants {A E : Type 0} (cuts : List (List (List (List ℕ)))) (plans : List Tree) (before after : ℕ)
+    (result : Result A E) (rest : A → List (List (List (List ℕ)))) (trees : A → List read.Tree) : Type 0 where
   pub planted : IfOk result (λ r. ArePlanted cuts (rest r) plans (trees r) before after)
   pub most : after ≤ before + lists cuts

@@ -66,4 +66,5 @@ pub record IsFetch (number count : ℕ) (old new : List OpenCursor) (found : Opt
 -- the lists of the cursor with this number, and the locations in them
 abbrev pub work_of : ℕ → List OpenCursor → ℕ
 work_of number [] = 0
-work_of number (c ∷ cs) = if c.number == number then locations c.cursor.snapshot.cuts + lists c.cursor.snapshot.cuts else work_of number cs
+work_of number (c ∷ cs) = if c.number == number then locations c.cursor.snapshot.cuts + lists c.cursor.snapshot.cuts
+    else work_of number cs

@@ -25,7 +25,9 @@ pub record IsScorerOf (asked : List Use) (v : View) (new : Scoring TestReader) (
   pub reads : map reader_list new.readers ≡ map test_list (scoring_lists asked v)
   pub titles : reader_list new.titles ≡ test_list (last_lists v)
   pub unasked : new.asked ≡ 0
-  pub steps : after + left_of reader_left new ≤ before + (locations (scoring_lists asked v) + lists (scoring_lists asked v)) + (count_locations (last_lists v) + count_lists (last_lists v))
+  pub steps : after + left_of reader_left new
+      ≤ before + (locations (scoring_lists asked v) + lists (scoring_lists asked v))
+      + (count_locations (last_lists v) + count_lists (last_lists v))
 
 -- the scorer scored documents: it reads what it read, and what is left of it fell at least by the steps
 pub record HasScored (old new : Scoring TestReader) (before after : ℕ) : Type 0 where
@@ -48,4 +50,8 @@ AreScorable asked (row ∷ rows) = IsScorable asked row × AreScorable (end_of r
 
 -- a row with the score of its range
 abbrev pub scored_by : Scoring TestReader → DocRow → Scored
-scored_by s row = record { number = row.number; name = row.name; score = range_score s.uses (map reader_list s.readers) (reader_list s.titles) row.first (end_of row) }
+scored_by s row = record {
+  number = row.number;
+  name = row.name;
+  score = range_score s.uses (map reader_list s.readers) (reader_list s.titles) row.first (end_of row);
+}

@@ -22,9 +22,11 @@ pub record IsKept (a : Added) : Type 0 where
   pub ended : (place : ℕ) → IsMet a.cells document_end place ↔ (place + 1 ≡ length a.cells)
 
 -- These terms are all that meet the test in the documents, each with its locations, cut by level.
-pub record AreTermsOf (added : List Added) (test : Test) (keys : List TermKey) (cuts : List (List (List ℕ))) : Type 0 where
+pub record AreTermsOf (added : List Added) (test : Test) (keys : List TermKey)
+    (cuts : List (List (List ℕ))) : Type 0 where
   pub lists : map concat cuts ≡ map (λ key. list_of added (term_in key)) keys
-  pub all : (term : List ℕ) → IsTrue (term_meets test term) → 0 < length (list_of added term) → Contains (map term_in keys) term
+  pub all : (term : List ℕ) → IsTrue (term_meets test term) → 0 < length (list_of added term)
+      → Contains (map term_in keys) term
 
 -- The rows are those of documents, and the terms of each test are theirs; these are the documents that were not deleted.
 pub record ShowsDocuments (v : View) (documents : List Document) : Type 0 where
@@ -32,5 +34,7 @@ pub record ShowsDocuments (v : View) (documents : List Document) : Type 0 where
   pub space : IsSpace added
   pub kept : All IsKept added
   pub rows : v.rows ≡ map (λ a. a.row) added
-  pub terms : (at : ℕ) → at < length v.tests → AreTermsOf added (slice_index_or v.tests at document_end) (slice_index_or v.keys at []) (slice_index_or v.cuts at [])
+  pub terms : (at : ℕ) → at < length v.tests
+      → AreTermsOf added (slice_index_or v.tests at document_end) (slice_index_or v.keys at [])
+      (slice_index_or v.cuts at [])
   pub live : map document_in (live_of v.gone added) ≡ documents

@@ -10,4 +10,5 @@ use Rattle.alta_search.specs.Plans.{tests_of}
 -- The plan finds the documents that have a location of the stem's test.
 pub record IsStem (p : plan.Tree) (stem : Test) : Type 0 where
   pub tests : tests_of p ≡ document_end ∷ stem ∷ []
-  pub finds : (space : List Placed) → IsSpace space → plan_list space p ≡ ends_with_any (ends_of space) (list_of space stem ∷ [])
+  pub finds : (space : List Placed) → IsSpace space → plan_list space p
+      ≡ ends_with_any (ends_of space) (list_of space stem ∷ [])

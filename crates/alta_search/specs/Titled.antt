@@ -13,4 +13,5 @@ use Rattle.alta_search.specs.Plans.{tests_of}
 pub record IsTitled (p : plan.Tree) (word : Test) : Type 0 where
   pub tests : tests_of p ≡ document_end ∷ word ∷ title_end ∷ []
   pub exact : All IsExact (tests_of p)
-  pub finds : (space : List Placed) → IsSpace space → plan_list space p ≡ ends_followed (ends_of space) (list_of space word) (list_of space title_end)
+  pub finds : (space : List Placed) → IsSpace space → plan_list space p
+      ≡ ends_followed (ends_of space) (list_of space word) (list_of space title_end)

@@ -69,4 +69,5 @@ scoring_lists uses v = map (λ (u : Use). lists_for u.test v.tests v.cuts) uses
 
 -- the steps of all lists of the snapshot, each once, and of those of each use, once more
 abbrev pub AreTopSteps : List Use → View → ℕ → ℕ → Type 0
-AreTopSteps uses v before after = after ≤ before + (locations v.cuts + lists v.cuts) + (locations (scoring_lists uses v) + lists (scoring_lists uses v))
+AreTopSteps uses v before after = after ≤ before + (locations v.cuts + lists v.cuts)
+    + (locations (scoring_lists uses v) + lists (scoring_lists uses v))

@@ -18,25 +18,30 @@ pub record AreSearchSteps (found : Option Conjunction) (v : View) (before after 
   pub rarest : AreByRarest found v before after
 
 -- Where memory was there, a reader of a plan over a snapshot was made, which the rarest word leads where there is a conjunction.
-pub record BeginsReader {E : Type 0} (p : Tree) (found : Option Conjunction) (v : View) (from before after : ℕ) (result : Result PlanView E) : Type 0 where
+pub record BeginsReader {E : Type 0} (p : Tree) (found : Option Conjunction) (v : View) (from before after : ℕ)
+    (result : Result PlanView E) : Type 0 where
   pub begun : IfOk result (λ r. IsBegun p v r from before after)
   pub moves : IfOk result (λ r. AreByRarest found v before (after + r.moves))
   pub steps : AreSearchSteps found v before after
 
 -- Where memory was there, the next of the answers that have these rows were picked by their indexes, so many at most. The reader went
 -- on to the first of those that are left.
-pub record Picks {A E : Type 0} (rows : List DocRow) (gone : List ℕ) (count : ℕ) (old new : PlanView) (before after : ℕ) (result : Result A E) (picked : A → Picked) : Type 0 where
+pub record Picks {A E : Type 0} (rows : List DocRow) (gone : List ℕ) (count : ℕ) (old new : PlanView)
+    (before after : ℕ) (result : Result A E) (picked : A → Picked) : Type 0 where
   pub onward : IsOnward old new before after
   pub inside : IfOk result (λ r. All (λ i. i < length rows) (picked r).picks.items)
-  pub part : IfOk result (λ r. IsPart (answers_in old.list gone old.place rows) (answers_in old.list gone new.place rows) count
+  pub part : IfOk result (λ r. IsPart (answers_in old.list gone old.place rows)
+      (answers_in old.list gone new.place rows) count
       (rows_at rows (picked r).picks.items) (picked r).more new.place)
 
 -- Where memory was there, what a walk over a snapshot answered is so; it added at most a step a list and one a location.
-pub record WalksOver {A E : Type 0} (v : View) (before after : ℕ) (result : Result A E) (IsSo : A → Type 0) : Type 0 where
+pub record WalksOver {A E : Type 0} (v : View) (before after : ℕ) (result : Result A E)
+    (IsSo : A → Type 0) : Type 0 where
   pub answer : IfOk result IsSo
   pub most : after ≤ before + locations v.cuts + lists v.cuts
 
 -- Where memory was there, these are as many as the plan has answers over a snapshot.
-pub record CountsAnswers {E : Type 0} (p : Tree) (found : Option Conjunction) (v : View) (before after : ℕ) (result : Result ℕ E) : Type 0 where
+pub record CountsAnswers {E : Type 0} (p : Tree) (found : Option Conjunction) (v : View) (before after : ℕ)
+    (result : Result ℕ E) : Type 0 where
   pub count : IfOk result (λ n. (space : List Placed) → Shows space v → n ≡ length (coming space p v 0))
   pub steps : AreSearchSteps found v before after

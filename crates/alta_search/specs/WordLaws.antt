@@ -39,7 +39,8 @@ reader_stands (Coded r) h = word_stands r h
 reader_stands (Plain r) h = leaf_stands (leaf.Plain r) h
 reader_stands (Any r) h = in_step_place term_list term_place r.readers.items r.at h.1.in_step
 
-pub reader_members : (s : TestReader) → IsSoundReader s → (x : ℕ) → Contains (reader_all s) x ↔ Contains (reader_list s) x
+pub reader_members : (s : TestReader) → IsSoundReader s → (x : ℕ)
+    → Contains (reader_all s) x ↔ Contains (reader_list s) x
 reader_members (Coded r) h x = (λ m. m, λ m. m)
 reader_members (Plain r) h x = (λ m. m, λ m. m)
 reader_members (Any r) h x = gathered-members term_list term_list r.readers.items (λ k d l y. (λ m. m, λ m. m)) x
@@ -48,4 +49,5 @@ pub reader_left_is : (s : TestReader) → IsSoundReader s → reader_left s ≡ 
 reader_left_is (Coded r) h = refl
 reader_left_is (Plain r) h = refl
 reader_left_is (Any r) h =
-    gathered-left term_list term_list term_place term_left r.readers.items r.at h.1.in_step (λ k d l y. (λ m. m, λ m. m)) (λ k d l. refl)
+    gathered-left term_list term_list term_place term_left r.readers.items r.at h.1.in_step
+    (λ k d l y. (λ m. m, λ m. m)) (λ k d l. refl)

@@ -40,8 +40,11 @@ fn asked_lists<L: Ledger>(
     requires cut { All IsCut (map (lists_at tests.now) (ends ∷ words.now)) }
     requires single { All IsSingle (map (lists_at tests.now) (ends ∷ words.now)) }
     requires gone { IsRising gone.now }
-    ensures count { IfOk result (λ n. n ≡ count_live (ends_asked followed (test_list (lists_at tests.now ends)) (map test_list (map (lists_at tests.now) words.now))) gone.now 0) }
-    ensures most { steps.new ≤ steps.old + locations (map (lists_at tests.now) (ends ∷ words.now)) + lists (map (lists_at tests.now) (ends ∷ words.now)) }
+    ensures count { IfOk result (λ n. n ≡ count_live
+        (ends_asked followed (test_list (lists_at tests.now ends))
+        (map test_list (map (lists_at tests.now) words.now))) gone.now 0) }
+    ensures most { steps.new ≤ steps.old + locations (map (lists_at tests.now) (ends ∷ words.now))
+        + lists (map (lists_at tests.now) (ends ∷ words.now)) }
 {
     let live = count_levels(
         alloc,
@@ -80,9 +83,11 @@ fn any_of_uses<L: Ledger>(
     requires cut { All IsCut (map (lists_at tests.now) uses.now) }
     requires single { All IsSingle (map (lists_at tests.now) uses.now) }
     requires gone { IsRising gone.now }
-    ensures count { IfOk result (λ n. n ≡ count_live (ends_with_any (test_list (lists_at tests.now (slice_index uses.now 0)))
+    ensures count { IfOk result (λ n. n ≡ count_live
+        (ends_with_any (test_list (lists_at tests.now (slice_index uses.now 0)))
         (map test_list (map (lists_at tests.now) (seconds uses.now)))) gone.now 0) }
-    ensures most { steps.new ≤ steps.old + locations (map (lists_at tests.now) uses.now) + lists (map (lists_at tests.now) uses.now) }
+    ensures most { steps.new ≤ steps.old + locations (map (lists_at tests.now) uses.now)
+        + lists (map (lists_at tests.now) uses.now) }
 {
     let words = every_second(alloc, uses)?;
     let live = asked_lists(alloc, false, tests, uses[0], &words, gone, steps)?;
@@ -109,7 +114,8 @@ pub(crate) fn count_either<L: Ledger>(
 ) -> Result<u64, AllocError>
     requires some { 0 < length snapshot.now.tests }
     requires exact { All IsExact snapshot.now.tests }
-    ensures { WalksOver snapshot.now steps.old steps.new result (λ n. (space : List Placed) (words : List Test) → Shows space snapshot.now → snapshot.now.tests ≡ either_tests words
+    ensures { WalksOver snapshot.now steps.old steps.new result (λ n. (space : List Placed) (words : List Test)
+        → Shows space snapshot.now → snapshot.now.tests ≡ either_tests words
         → n ≡ count_live (ends_with_any (ends_of space) (map (list_of space) words)) snapshot.now.gone 0) }
 {
     let (tests, uses) = snapshot.uses();
@@ -130,9 +136,12 @@ fn followed_uses<L: Ledger>(
     requires cut { All IsCut (map (lists_at tests.now) uses.now) }
     requires single { All IsSingle (map (lists_at tests.now) uses.now) }
     requires gone { IsRising gone.now }
-    ensures count { IfOk result (λ n. n ≡ count_live (ends_followed (slice_index_or (map test_list (map (lists_at tests.now) uses.now)) 0 [])
-        (slice_index_or (map test_list (map (lists_at tests.now) uses.now)) 1 []) (slice_index_or (map test_list (map (lists_at tests.now) uses.now)) 2 [])) gone.now 0) }
-    ensures most { steps.new ≤ steps.old + locations (map (lists_at tests.now) uses.now) + lists (map (lists_at tests.now) uses.now) }
+    ensures count { IfOk result (λ n. n ≡ count_live
+        (ends_followed (slice_index_or (map test_list (map (lists_at tests.now) uses.now)) 0 [])
+        (slice_index_or (map test_list (map (lists_at tests.now) uses.now)) 1 [])
+        (slice_index_or (map test_list (map (lists_at tests.now) uses.now)) 2 [])) gone.now 0) }
+    ensures most { steps.new ≤ steps.old + locations (map (lists_at tests.now) uses.now)
+        + lists (map (lists_at tests.now) uses.now) }
 {
     let (ends, words) = uses.split_at(1);
     let live = asked_lists(alloc, true, tests, ends[0], words, gone, steps)?;
@@ -148,8 +157,10 @@ pub(crate) fn count_titled<L: Ledger>(
 ) -> Result<u64, AllocError>
     requires three { length snapshot.now.tests ≡ 3 }
     requires exact { All IsExact snapshot.now.tests }
-    ensures { WalksOver snapshot.now steps.old steps.new result (λ n. (space : List Placed) (word : Test) → Shows space snapshot.now → snapshot.now.tests ≡ document_end ∷ word ∷ title_end ∷ []
-        → n ≡ count_live (ends_followed (ends_of space) (list_of space word) (list_of space title_end)) snapshot.now.gone 0) }
+    ensures { WalksOver snapshot.now steps.old steps.new result (λ n. (space : List Placed) (word : Test)
+        → Shows space snapshot.now → snapshot.now.tests ≡ document_end ∷ word ∷ title_end ∷ []
+        → n ≡ count_live (ends_followed (ends_of space) (list_of space word) (list_of space title_end))
+        snapshot.now.gone 0) }
 {
     let (tests, uses) = snapshot.uses();
     let live = followed_uses(alloc, tests, uses, snapshot.gone(), steps)?;

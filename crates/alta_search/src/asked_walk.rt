@@ -58,7 +58,8 @@ fn asked_coded<'a, L: Ledger>(
     requires ends_unmoved { IsUnmovedSingle (Plain ends) }
     requires words_unmoved { All IsUnmovedSingle words.items }
     requires gone { IsRising gone.now }
-    ensures count { IfOk result (λ n. n ≡ count_live (ends_asked followed (single_list (Plain ends.entry)) (map single_list words.entry.items)) gone.now 0) }
+    ensures count { IfOk result (λ n. n ≡ count_live
+        (ends_asked followed (single_list (Plain ends.entry)) (map single_list words.entry.items)) gone.now 0) }
     ensures steps { steps.new ≤ steps.old + (single_left (Plain ends.entry) + sum_by single_left words.entry.items) }
 {
     let words = all_coded(alloc, words)?;
@@ -80,7 +81,8 @@ pub(crate) fn asked_by_kind<'a, L: Ledger>(
     requires ends_unmoved { IsUnmovedSingle ends }
     requires words_unmoved { All IsUnmovedSingle words.items }
     requires gone { IsRising gone.now }
-    ensures count { IfOk result (λ n. n ≡ count_live (ends_asked followed (single_list ends.entry) (map single_list words.entry.items)) gone.now 0) }
+    ensures count { IfOk result (λ n. n ≡ count_live
+        (ends_asked followed (single_list ends.entry) (map single_list words.entry.items)) gone.now 0) }
     ensures steps { steps.new ≤ steps.old + (single_left ends.entry + sum_by single_left words.entry.items) }
 {
     match ends {

@@ -177,7 +177,8 @@ fn each_has(tests: &[TestLists], uses: &[usize], low: Loc, high: Loc) -> bool
     requires rising { All (λ u. IsRising (whole_at tests.now u)) uses.now }
     requires ordered { low ≤ high }
     ensures each { OnTrue result (All (λ u. 0 < length (between low high (levels_of tests.now u))) uses.now) }
-    ensures lacks { OnFalse result ((k : ℕ) × (k < length uses.now) × (between low high (levels_of tests.now (slice_index uses.now k)) ≡ [])) }
+    ensures lacks { OnFalse result ((k : ℕ) × (k < length uses.now)
+        × (between low high (levels_of tests.now (slice_index uses.now k)) ≡ [])) }
 {
     for index in uses {
         if lists_between(tests, *index, low, high).is_empty() {
@@ -236,8 +237,10 @@ fn level_readers<'a, L: Ledger>(
 ) -> Result<Vec<SingleReader<'a>>, AllocError>
     requires rising { All (λ u. IsRising (whole_at tests.now u)) uses.now }
     requires ordered { low ≤ high }
-    ensures { MakesReaders (sum_by (λ u. length (between low high (levels_of tests.now u))) uses.now) steps.old steps.new result (λ rs. All IsSoundSingle rs.items)
-        (λ rs. Each (λ u r. IsAtStart single_list single_list single_place single_left (part_at tests.now low high u) r) uses.now rs.items) }
+    ensures { MakesReaders (sum_by (λ u. length (between low high (levels_of tests.now u))) uses.now) steps.old
+        steps.new result (λ rs. All IsSoundSingle rs.items)
+        (λ rs. Each (λ u r. IsAtStart single_list single_list single_place single_left
+        (part_at tests.now low high u) r) uses.now rs.items) }
 {
     let mut readers = Vec::with_capacity(alloc, uses.len())?;
     for index in uses {
@@ -265,10 +268,15 @@ fn tally_between<L: Ledger>(
     requires rising { All (λ u. IsRising (whole_at tests.now u)) (ends ∷ words.now ++ negated.now) }
     requires ordered { low ≤ high }
     requires gone { IsRising gone.now }
-    ensures count { IfOk result (λ n. n ≡ count_live (ends_having (part_at tests.now low high ends) (map (part_at tests.now low high) words.now) (map (part_at tests.now low high) negated.now)) gone.now 0) }
-    ensures steps { steps.new ≤ steps.old + sum_by (λ u. length (between low high (levels_of tests.now u)) + length (part_at tests.now low high u)) (ends ∷ words.now ++ negated.now) }
-    ensures moves { steps.new ≤ steps.old + sum_by (λ u. length (between low high (levels_of tests.now u))) (ends ∷ words.now ++ negated.now)
-        + (2 * length (part_at tests.now low high (slice_index words.now lead)) + 2) * (1 + length words.now + length negated.now) }
+    ensures count { IfOk result (λ n. n ≡ count_live
+        (ends_having (part_at tests.now low high ends) (map (part_at tests.now low high) words.now)
+        (map (part_at tests.now low high) negated.now)) gone.now 0) }
+    ensures steps { steps.new ≤ steps.old + sum_by (λ u. length (between low high (levels_of tests.now u))
+        + length (part_at tests.now low high u)) (ends ∷ words.now ++ negated.now) }
+    ensures moves { steps.new ≤ steps.old + sum_by (λ u. length (between low high (levels_of tests.now u)))
+        (ends ∷ words.now ++ negated.now)
+        + (2 * length (part_at tests.now low high (slice_index words.now lead)) + 2)
+        * (1 + length words.now + length negated.now) }
 {
     let ends = level_reader(alloc, lists_between(tests, ends, low, high), steps)?;
     let words = level_readers(alloc, tests, words, low, high, steps)?;
@@ -299,8 +307,10 @@ fn led_between<L: Ledger>(
     requires until { All (λ u. IsCleft high (levels_of tests.now u)) (ends ∷ words.now ++ negated.now) }
     requires starts { (low ≡ 0) ⊎ Contains (whole_at tests.now ends) low }
     requires gone { IsRising gone.now }
-    ensures count { IfOk result (λ n. n + count_live (having_all tests.now ends words.now negated.now) gone.now (high + 1) ≡ count_live (having_all tests.now ends words.now negated.now) gone.now (low + 1)) }
-    ensures steps { AreWindowSteps (levels_of tests.now) (ends ∷ words.now ++ negated.now) (Some (length (whole_at tests.now (slice_index words.now lead)))) low high steps.old steps.new }
+    ensures count { IfOk result (λ n. n + count_live (having_all tests.now ends words.now negated.now) gone.now
+        (high + 1) ≡ count_live (having_all tests.now ends words.now negated.now) gone.now (low + 1)) }
+    ensures steps { AreWindowSteps (levels_of tests.now) (ends ∷ words.now ++ negated.now)
+        (Some (length (whole_at tests.now (slice_index words.now lead)))) low high steps.old steps.new }
 {
     if lists_between(tests, ends, low, high).is_empty() {
         return Ok(0);
@@ -332,7 +342,9 @@ fn walked_between<L: Ledger>(
     requires rising { All (λ u. IsRising (whole_at tests.now u)) (ends ∷ words.now) }
     requires ordered { low ≤ high }
     requires gone { IsRising gone.now }
-    ensures count { IfOk result (λ n. n ≡ count_live (ends_asked followed (part_at tests.now low high ends) (map (part_at tests.now low high) words.now)) gone.now 0) }
+    ensures count { IfOk result (λ n. n ≡ count_live
+        (ends_asked followed (part_at tests.now low high ends)
+        (map (part_at tests.now low high) words.now)) gone.now 0) }
     ensures steps { AreWindowSteps (levels_of tests.now) (ends ∷ words.now) None low high steps.old steps.new }
 {
     let ends = level_reader(alloc, lists_between(tests, ends, low, high), steps)?;
@@ -361,8 +373,10 @@ fn count_between<L: Ledger>(
     requires until { All (λ u. IsCleft high (levels_of tests.now u)) (ends ∷ words.now ++ negated.now) }
     requires starts { (low ≡ 0) ⊎ Contains (whole_at tests.now ends) low }
     requires gone { IsRising gone.now }
-    ensures count { IfOk result (λ n. n + count_live (ends_at tests.now asking ends words.now negated.now) gone.now (high + 1) ≡ count_live (ends_at tests.now asking ends words.now negated.now) gone.now (low + 1)) }
-    ensures steps { AreWindowSteps (levels_of tests.now) (ends ∷ words.now ++ negated.now) (leading_size tests.now asking words.now) low high steps.old steps.new }
+    ensures count { IfOk result (λ n. n + count_live (ends_at tests.now asking ends words.now negated.now) gone.now
+        (high + 1) ≡ count_live (ends_at tests.now asking ends words.now negated.now) gone.now (low + 1)) }
+    ensures steps { AreWindowSteps (levels_of tests.now) (ends ∷ words.now ++ negated.now)
+        (leading_size tests.now asking words.now) low high steps.old steps.new }
 {
     match asking {
         Asking::Led(lead) => led_between(
@@ -443,7 +457,8 @@ pub(crate) fn count_levels<L: Ledger>(
     requires rising { All (λ u. IsRising (whole_at tests.now u)) (ends ∷ words.now ++ negated.now) }
     requires gone { IsRising gone.now }
     ensures count { IfOk result (λ n. n ≡ count_live (ends_at tests.now asking ends words.now negated.now) gone.now 0) }
-    ensures steps { AreWindowSteps (levels_of tests.now) (ends ∷ words.now ++ negated.now) (leading_size tests.now asking words.now) 0 TOP steps.old steps.new }
+    ensures steps { AreWindowSteps (levels_of tests.now) (ends ∷ words.now ++ negated.now)
+        (leading_size tests.now asking words.now) 0 TOP steps.old steps.new }
 {
     let levels = levels_at(tests, ends);
     let len = walked_len(tests, asking, words);

@@ -69,10 +69,13 @@ impl Cursors {
     /// cursor is opened then.
     pub fn open(&mut self, cursor: Cursor) -> Result<u64, AllocError>
         requires { length self.old < CURSORS }
-        ensures opened { OnOk result ((all : List OpenAnswers) (documents : List Document) → AreOpen self.old all → AreLeft cursor documents → AreOpen self.new (with_opened documents all)) }
+        ensures opened { OnOk result ((all : List OpenAnswers) (documents : List Document) → AreOpen self.old all
+            → AreLeft cursor documents → AreOpen self.new (with_opened documents all)) }
         ensures free { IfOk result (λ number. number ≡ first_free (length self.old) 1 (map cursor_number self.old)) }
-        ensures pushed { IfOk result (λ number. self.new ≡ self.old ++ record { number = number; cursor = cursor } ∷ []) }
-        ensures number { IfOk result (λ number. (all : List OpenAnswers) → AreOpen self.old all → number ≡ least_free all) }
+        ensures pushed { IfOk result (λ number. self.new
+            ≡ self.old ++ record { number = number; cursor = cursor } ∷ []) }
+        ensures number { IfOk result (λ number. (all : List OpenAnswers) → AreOpen self.old all
+            → number ≡ least_free all) }
         ensures range { IfOk result (λ number. (1 ≤ number) × (number ≤ CURSORS)) }
         ensures kept { OnErr result (self.new ≡ self.old) }
     {
@@ -96,8 +99,10 @@ impl Cursors {
         ensures there { IfOk result (λ page. is_some page ≡ list_any (λ c. c.number == number) self.old) }
         ensures numbers { map cursor_number self.new ≡ map cursor_number self.old }
         ensures most { steps.new ≤ steps.old + work_of number self.old }
-        ensures steps { All (λ c. c.number ≡ number → AreSearchSteps c.cursor.found c.cursor.snapshot steps.old steps.new) self.old }
-        ensures lazy { IfOk result (λ page. IfSome page (λ p. All (λ c. c.number ≡ number → AreLazySteps count c.cursor p steps.old steps.new) self.old)) }
+        ensures steps { All (λ c. c.number ≡ number
+            → AreSearchSteps c.cursor.found c.cursor.snapshot steps.old steps.new) self.old }
+        ensures lazy { IfOk result (λ page. IfSome page
+            (λ p. All (λ c. c.number ≡ number → AreLazySteps count c.cursor p steps.old steps.new) self.old)) }
         ensures kept { OnErr result (self.new ≡ self.old) }
     {
         fetch_from(&mut self.cursors, alloc, number, count, steps)
@@ -108,7 +113,8 @@ impl Cursors {
         ensures has { result ≡ list_any (λ c. c.number == number) self.old }
         ensures rest { self.new ≡ filter (λ c. not (c.number == number)) self.old }
         ensures had { (all : List OpenAnswers) → AreOpen self.old all → IsTrue result ↔ IsSome (left_of number all) }
-        ensures closed { (all : List OpenAnswers) → AreOpen self.old all → AreOpen self.new (without_cursor number all) }
+        ensures closed { (all : List OpenAnswers) → AreOpen self.old all
+            → AreOpen self.new (without_cursor number all) }
         ensures kept { result ≡ false → self.new ≡ self.old }
     {
         if !has(&self.cursors, number) {
@@ -160,7 +166,8 @@ fn page_of<L: Ledger>(
     count: u64,
     steps: &mut Steps<L>,
 ) -> Result<Page, AllocError>
-    ensures page { IfOk result (λ page. (left : List Document) → AreLeft cursor.old left → IsPageOf count left page × AreLeft cursor.new (drop count left)) }
+    ensures page { IfOk result (λ page. (left : List Document) → AreLeft cursor.old left
+        → IsPageOf count left page × AreLeft cursor.new (drop count left)) }
     ensures most { steps.new ≤ steps.old + locations cursor.old.snapshot.cuts + lists cursor.old.snapshot.cuts }
     ensures steps { AreSearchSteps cursor.old.found cursor.old.snapshot steps.old steps.new }
     ensures lazy { IfOk result (λ page. AreLazySteps count cursor.old page steps.old steps.new) }
@@ -182,8 +189,10 @@ fn fetch_from<L: Ledger>(
     ensures there { IfOk result (λ page. is_some page ≡ list_any (λ c. c.number == number) cursors.old) }
     ensures numbers { map cursor_number cursors.new ≡ map cursor_number cursors.old }
     ensures most { steps.new ≤ steps.old + work_of number cursors.old }
-    ensures steps { All (λ c. c.number ≡ number → AreSearchSteps c.cursor.found c.cursor.snapshot steps.old steps.new) cursors.old }
-    ensures lazy { IfOk result (λ page. IfSome page (λ p. All (λ c. c.number ≡ number → AreLazySteps count c.cursor p steps.old steps.new) cursors.old)) }
+    ensures steps { All (λ c. c.number ≡ number
+        → AreSearchSteps c.cursor.found c.cursor.snapshot steps.old steps.new) cursors.old }
+    ensures lazy { IfOk result (λ page. IfSome page
+        (λ p. All (λ c. c.number ≡ number → AreLazySteps count c.cursor p steps.old steps.new) cursors.old)) }
     ensures kept { OnErr result (cursors.new ≡ cursors.old) }
 {
     match place_of(cursors, number) {

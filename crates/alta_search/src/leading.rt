@@ -88,7 +88,9 @@ pub(crate) fn rarest(tests: &[TestLists], words: &[usize]) -> usize
     requires cut { All IsCut (map (lists_at tests.now) words.now) }
     requires single { All IsSingle (map (lists_at tests.now) words.now) }
     ensures within { result < length words.now }
-    ensures least { (k : ℕ) → k < length words.now → count_locations (lists_at tests.now (slice_index words.now result)) ≤ count_locations (lists_at tests.now (slice_index words.now k)) }
+    ensures least { (k : ℕ) → k < length words.now
+        → count_locations (lists_at tests.now (slice_index words.now result))
+        ≤ count_locations (lists_at tests.now (slice_index words.now k)) }
 {
     let mut lead = 0;
     let mut fewest = len_at(tests, words[0]);
@@ -108,7 +110,8 @@ pub(crate) fn list_reader<'a, L: Ledger>(
     steps: &mut Steps<L>,
 ) -> SingleReader<'a>
     requires { IsRising (level_list list.now) }
-    ensures { IsMadeReader steps.old steps.new result IsSoundSingle (IsAtStart single_list single_list single_place single_left (level_list list.now)) }
+    ensures { IsMadeReader steps.old steps.new result IsSoundSingle
+        (IsAtStart single_list single_list single_place single_left (level_list list.now)) }
 {
     match &list.stored {
         Stored::Coded(posting) => SingleReader::Coded(posting.reader(steps)),
@@ -167,8 +170,10 @@ pub(crate) fn word_readers<'a, L: Ledger>(
 ) -> Result<Vec<SingleReader<'a>>, AllocError>
     requires cut { All IsCut (map (lists_at tests.now) uses.now) }
     requires single { All IsSingle (map (lists_at tests.now) uses.now) }
-    ensures { MakesReaders (lists (map (lists_at tests.now) uses.now)) steps.old steps.new result (λ rs. All IsSoundSingle rs.items)
-        (λ rs. Each (IsFresh single_list single_list single_place single_left) (map (lists_at tests.now) uses.now) rs.items) }
+    ensures { MakesReaders (lists (map (lists_at tests.now) uses.now)) steps.old steps.new result
+        (λ rs. All IsSoundSingle rs.items)
+        (λ rs. Each (IsFresh single_list single_list single_place single_left)
+        (map (lists_at tests.now) uses.now) rs.items) }
 {
     let mut readers = Vec::with_capacity(alloc, uses.len())?;
     for index in uses {
@@ -191,14 +196,17 @@ fn led<'a, L: Ledger>(
     steps: &mut Steps<L>,
 ) -> Result<PlanReader<'a>, AllocError>
     requires within { lead < length words.now }
-    requires least { (k : ℕ) → k < length words.now → count_locations (lists_at tests.now (slice_index words.now lead)) ≤ count_locations (lists_at tests.now (slice_index words.now k)) }
+    requires least { (k : ℕ) → k < length words.now → count_locations (lists_at tests.now (slice_index words.now lead))
+        ≤ count_locations (lists_at tests.now (slice_index words.now k)) }
     requires some_ends { 0 < count_locations (lists_at tests.now ends) }
     requires some_words { 0 < count_locations (lists_at tests.now (slice_index words.now lead)) }
     requires cut { All IsCut (map (lists_at tests.now) (ends ∷ words.now ++ negated.now)) }
     requires single { All IsSingle (map (lists_at tests.now) (ends ∷ words.now ++ negated.now)) }
     requires top { from ≤ TOP }
-    ensures led { IfOk result (λ r. IsLeadOf (lists_at tests.now ends) (map (lists_at tests.now) words.now) (map (lists_at tests.now) negated.now) r from steps.old steps.new) }
-    ensures failed { IfErr result (λ _. steps.new ≤ steps.old + lists (map (lists_at tests.now) (ends ∷ words.now ++ negated.now))) }
+    ensures led { IfOk result (λ r. IsLeadOf (lists_at tests.now ends) (map (lists_at tests.now) words.now)
+        (map (lists_at tests.now) negated.now) r from steps.old steps.new) }
+    ensures failed { IfErr result (λ _. steps.new
+        ≤ steps.old + lists (map (lists_at tests.now) (ends ∷ words.now ++ negated.now))) }
 {
     let ends = word_reader(alloc, terms_at(tests, ends), steps)?;
     let words = word_readers(alloc, tests, words, steps)?;
@@ -221,8 +229,10 @@ fn led_by_rarest<'a, L: Ledger>(
     requires cut { All IsCut (map (lists_at tests.now) (ends ∷ words.now ++ negated.now)) }
     requires single { All IsSingle (map (lists_at tests.now) (ends ∷ words.now ++ negated.now)) }
     requires top { from ≤ TOP }
-    ensures led { IfOk result (λ r. IsLeadOf (lists_at tests.now ends) (map (lists_at tests.now) words.now) (map (lists_at tests.now) negated.now) r from steps.old steps.new) }
-    ensures failed { IfErr result (λ _. steps.new ≤ steps.old + lists (map (lists_at tests.now) (ends ∷ words.now ++ negated.now))) }
+    ensures led { IfOk result (λ r. IsLeadOf (lists_at tests.now ends) (map (lists_at tests.now) words.now)
+        (map (lists_at tests.now) negated.now) r from steps.old steps.new) }
+    ensures failed { IfErr result (λ _. steps.new
+        ≤ steps.old + lists (map (lists_at tests.now) (ends ∷ words.now ++ negated.now))) }
 {
     let lead = rarest(tests, words);
     if len_at(tests, ends) == 0 {

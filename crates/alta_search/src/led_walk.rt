@@ -79,12 +79,17 @@ fn tally_coded<'a, L: Ledger>(
     requires words_coded { All IsCoded words.items }
     requires negated_coded { All IsCoded negated.items }
     requires lead { lead < length words.items }
-    requires at { AreAtAnswer (single_list (Plain ends)) (map single_list words.items) (map single_list negated.items) at
+    requires at { AreAtAnswer (single_list (Plain ends)) (map single_list words.items)
+        (map single_list negated.items) at
         (single_place (Plain ends)) (map single_place words.items) (map single_place negated.items) }
     requires gone { IsRising gone.now }
-    ensures count { IfOk result (λ n. n ≡ count_live (ends_having (single_list (Plain ends.entry)) (map single_list words.entry.items) (map single_list negated.entry.items)) gone.now at) }
-    ensures steps { AreFewSteps (single_list (Plain ends.entry)) (map single_list words.entry.items) (map single_list negated.entry.items) lead at
-        (single_left (Plain ends.entry) + sum_by single_left words.entry.items + sum_by single_left negated.entry.items) steps.old steps.new }
+    ensures count { IfOk result (λ n. n ≡ count_live
+        (ends_having (single_list (Plain ends.entry)) (map single_list words.entry.items)
+        (map single_list negated.entry.items)) gone.now at) }
+    ensures steps { AreFewSteps (single_list (Plain ends.entry)) (map single_list words.entry.items)
+        (map single_list negated.entry.items) lead at
+        (single_left (Plain ends.entry) + sum_by single_left words.entry.items
+        + sum_by single_left negated.entry.items) steps.old steps.new }
 {
     let mut words = all_coded(alloc, words)?;
     let mut negated = all_coded(alloc, negated)?;
@@ -110,9 +115,12 @@ fn tally_words<'a, E: BackReader + Drop, L: Ledger>(
     requires at { AreAtAnswer (E.list ends) (map single_list words.items) (map single_list negated.items) at
         (E.location ends) (map single_place words.items) (map single_place negated.items) }
     requires gone { IsRising gone.now }
-    ensures count { result ≡ count_live (ends_having (E.list ends) (map single_list words.entry.items) (map single_list negated.entry.items)) gone.now at }
-    ensures steps { AreFewSteps (E.list ends) (map single_list words.entry.items) (map single_list negated.entry.items) lead at
-        (E.left ends + sum_by single_left words.entry.items + sum_by single_left negated.entry.items) steps.old steps.new }
+    ensures count { result ≡ count_live (ends_having (E.list ends) (map single_list words.entry.items)
+        (map single_list negated.entry.items)) gone.now at }
+    ensures steps { AreFewSteps (E.list ends) (map single_list words.entry.items)
+        (map single_list negated.entry.items) lead at
+        (E.left ends + sum_by single_left words.entry.items + sum_by single_left negated.entry.items)
+        steps.old steps.new }
 {
     let mut ends = EndReader::new(ends);
     let mut words = words;
@@ -138,9 +146,13 @@ fn tally_parts<'a, L: Ledger>(
     requires at { AreAtAnswer (single_list ends) (map single_list words.items) (map single_list negated.items) at
         (single_place ends) (map single_place words.items) (map single_place negated.items) }
     requires gone { IsRising gone.now }
-    ensures count { IfOk result (λ n. n ≡ count_live (ends_having (single_list ends.entry) (map single_list words.entry.items) (map single_list negated.entry.items)) gone.now at) }
-    ensures steps { AreFewSteps (single_list ends.entry) (map single_list words.entry.items) (map single_list negated.entry.items) lead at
-        (single_left ends.entry + sum_by single_left words.entry.items + sum_by single_left negated.entry.items) steps.old steps.new }
+    ensures count { IfOk result (λ n. n ≡ count_live
+        (ends_having (single_list ends.entry) (map single_list words.entry.items)
+        (map single_list negated.entry.items)) gone.now at) }
+    ensures steps { AreFewSteps (single_list ends.entry) (map single_list words.entry.items)
+        (map single_list negated.entry.items) lead at
+        (single_left ends.entry + sum_by single_left words.entry.items + sum_by single_left negated.entry.items)
+        steps.old steps.new }
 {
     match ends {
         SingleReader::Plain(plain) => {
@@ -163,7 +175,8 @@ pub(crate) fn tally_led<L: Ledger>(
 ) -> Result<u64, AllocError>
     requires sound { IsSoundLed reader }
     requires gone { IsRising gone.now }
-    ensures count { IfOk result (λ n. n ≡ count_live (list_of single_list (chains_of reader.entry)) gone.now reader.entry.at) }
+    ensures count { IfOk result (λ n. n ≡ count_live (list_of single_list (chains_of reader.entry))
+        gone.now reader.entry.at) }
     ensures steps { steps.new ≤ steps.old + left_of single_left (chains_of reader.entry) }
     ensures moves { steps.new ≤ steps.old + led_moves reader.entry }
 {

@@ -67,7 +67,8 @@ impl<'a> PlanReader<'a> {
     ) -> PlanReader<'a>
         requires unmoved { IsUnmoved (tree_of reader_list reader_all reader_place reader_left node) }
         requires top { from ≤ TOP }
-        ensures { IsStarted (tree_of reader_list reader_all reader_place reader_left node.entry) result from steps.old steps.new }
+        ensures { IsStarted (tree_of reader_list reader_all reader_place reader_left node.entry) result from
+            steps.old steps.new }
     {
         let reader = DocReader::starting_at(node, from.max(1), steps);
         PlanReader {
@@ -137,7 +138,8 @@ impl<'a> PlanReader<'a> {
 fn place_of(way: &Way<'_>) -> Loc
     requires { IsSoundWay way.now }
     ensures location { result ≡ (way_view way.now).place }
-    ensures unpassed { IsTrue (way_view way.now).one → result < TOP → count_from (way_view way.now).all result ≤ (way_view way.now).left }
+    ensures unpassed { IsTrue (way_view way.now).one → result < TOP
+        → count_from (way_view way.now).all result ≤ (way_view way.now).left }
 {
     match way {
         Way::Nothing => TOP,
@@ -175,7 +177,8 @@ fn next_led<L: Ledger>(reader: &mut LeadReader<SingleReader<'_>>, steps: &mut St
     ensures all { all_of single_list (chains_of reader.new) ≡ all_of single_list (chains_of reader.old) }
     ensures location { reader.new.at ≡ first_from (list_of single_list (chains_of reader.old)) (reader.old.at + 1) }
     ensures falls { left_of single_left (chains_of reader.new) < left_of single_left (chains_of reader.old) }
-    ensures steps { steps.new + left_of single_left (chains_of reader.new) ≤ steps.old + left_of single_left (chains_of reader.old) }
+    ensures steps { steps.new + left_of single_left (chains_of reader.new)
+        ≤ steps.old + left_of single_left (chains_of reader.old) }
     ensures moves { steps.new + led_moves reader.new ≤ steps.old + led_moves reader.old }
 {
     reader.next(steps);

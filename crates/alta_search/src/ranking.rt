@@ -55,7 +55,8 @@ fn answered<L: Ledger>(
     requires found { IfSome found.now (IsConjunction (tree plan.now)) }
     ensures inside { IfOk result (λ picks. All (λ i. i < length snapshot.now.rows) picks.items) }
     ensures walks { WalksOver snapshot.now steps.old steps.new result
-        (λ picks. (space : List Placed) → Shows space snapshot.now → rows_at snapshot.now.rows picks.items ≡ coming space (tree plan.now) snapshot.now 0) }
+        (λ picks. (space : List Placed) → Shows space snapshot.now → rows_at snapshot.now.rows picks.items
+        ≡ coming space (tree plan.now) snapshot.now 0) }
 {
     let (picked, _) = picked(alloc, plan, found, snapshot, 0, TOP, steps)?;
     Ok(picked.picks)
@@ -73,8 +74,10 @@ fn all_answered<L: Ledger>(
     requires tests { snapshot.now.tests ≡ tests_of (tree plan.now) ++ title_end ∷ [] }
     requires query { tree plan.now ≡ plan_of (shape query.now) }
     ensures inside { IfOk result (λ picks. All (λ i. i < length snapshot.now.rows) picks.items) }
-    ensures answers { IfOk result (λ picks. (space : List Placed) → Shows space snapshot.now → rows_at snapshot.now.rows picks.items ≡ coming space (tree plan.now) snapshot.now 0) }
-    ensures most { steps.new + (count_locations (last_lists snapshot.now) + count_lists (last_lists snapshot.now)) ≤ steps.old + (locations snapshot.now.cuts + lists snapshot.now.cuts) }
+    ensures answers { IfOk result (λ picks. (space : List Placed) → Shows space snapshot.now
+        → rows_at snapshot.now.rows picks.items ≡ coming space (tree plan.now) snapshot.now 0) }
+    ensures most { steps.new + (count_locations (last_lists snapshot.now) + count_lists (last_lists snapshot.now))
+        ≤ steps.old + (locations snapshot.now.cuts + lists snapshot.now.cuts) }
 {
     let section = snapshot.first(snapshot.len() - 1);
     let found = asked(alloc, plan, query)?;
@@ -87,7 +90,8 @@ fn all_answered<L: Ledger>(
 pub(crate) fn offer(best: &mut Best, row: &DocRow, score: u64) -> Result<(), AllocError>
     ensures count { best.new.count ≡ best.old.count }
     ensures best { OnOk result ((every : List Scored) → IsBest best.old.count every best.old.kept
-        → IsBest best.old.count (every ++ record { number = row.now.number; name = row.now.name; score = score } ∷ []) best.new.kept) }
+        → IsBest best.old.count (every ++ record { number = row.now.number; name = row.now.name; score = score }
+        ∷ []) best.new.kept) }
 {
     if best.has_place(row.number, score) {
         let name = row.name.copy()?;
@@ -112,7 +116,8 @@ fn best_of<L: Ledger>(
     requires { All (λ i. i < length rows.now) picks.now }
     ensures scored { HasScored scorer.old scorer.new steps.old steps.new }
     ensures count { IfOk result (λ best. best.count ≡ count) }
-    ensures best { IfOk result (λ best. length scorer.old.uses ≤ 64 → AreScorable scorer.old.asked (rows_at rows.now picks.now)
+    ensures best { IfOk result (λ best. length scorer.old.uses ≤ 64
+        → AreScorable scorer.old.asked (rows_at rows.now picks.now)
         → IsBest count (map (scored_by scorer.old) (rows_at rows.now picks.now)) best.kept) }
 {
     let mut best = Best::new(alloc, count);
@@ -136,9 +141,11 @@ fn top_by_plan<L: Ledger>(
     requires tests { snapshot.now.tests ≡ tests_of (tree plan.now) ++ title_end ∷ [] }
     requires query { tree plan.now ≡ plan_of (shape query.now) }
     requires uses { uses ≡ uses_of (shape query.now) }
-    ensures best { IfOk result (λ top. IsWellFormed (shape query.now) → (documents : List Document) → AreToRank (tree plan.now) snapshot.now documents
+    ensures best { IfOk result (λ top. IsWellFormed (shape query.now) → (documents : List Document)
+        → AreToRank (tree plan.now) snapshot.now documents
         → AreBest (uses_of (shape query.now)) documents count top) }
-    ensures total { IfOk result (λ top. (space : List Placed) → Shows space snapshot.now → top.total ≡ length (coming space (tree plan.now) snapshot.now 0)) }
+    ensures total { IfOk result (λ top. (space : List Placed) → Shows space snapshot.now
+        → top.total ≡ length (coming space (tree plan.now) snapshot.now 0)) }
     ensures most { AreTopSteps (uses_of (shape query.now)) snapshot.now steps.old steps.new }
 {
     a_query_has_few_uses();
@@ -168,9 +175,11 @@ fn top_by_uses<L: Ledger>(
     requires any { asks_any_use (shape query.now) ≡ true }
     requires few { length uses ≤ 64 }
     requires low { All (λ r. end_of r < 2 ^ 54) snapshot.now.rows }
-    ensures best { IfOk result (λ top. IsWellFormed (shape query.now) → (documents : List Document) → AreToRank (tree plan.now) snapshot.now documents
+    ensures best { IfOk result (λ top. IsWellFormed (shape query.now) → (documents : List Document)
+        → AreToRank (tree plan.now) snapshot.now documents
         → AreBest (uses_of (shape query.now)) documents count top) }
-    ensures total { IfOk result (λ top. (space : List Placed) → Shows space snapshot.now → top.total ≡ length (coming space (tree plan.now) snapshot.now 0)) }
+    ensures total { IfOk result (λ top. (space : List Placed) → Shows space snapshot.now
+        → top.total ≡ length (coming space (tree plan.now) snapshot.now 0)) }
     ensures most { AreTopSteps (uses_of (shape query.now)) snapshot.now steps.old steps.new }
 {
     a_score_is_of_the_cells();
@@ -207,9 +216,11 @@ pub fn top<L: Ledger>(
 ) -> Result<Top, AllocError>
     requires tests { snapshot.now.tests ≡ tests_of (tree plan.now) ++ title_end ∷ [] }
     requires query { tree plan.now ≡ plan_of (shape query.now) }
-    ensures best { IfOk result (λ top. IsWellFormed (shape query.now) → (documents : List Document) → AreToRank (tree plan.now) snapshot.now documents
+    ensures best { IfOk result (λ top. IsWellFormed (shape query.now) → (documents : List Document)
+        → AreToRank (tree plan.now) snapshot.now documents
         → AreBest (uses_of (shape query.now)) documents count top) }
-    ensures total { IfOk result (λ top. (space : List Placed) → Shows space snapshot.now → top.total ≡ length (coming space (tree plan.now) snapshot.now 0)) }
+    ensures total { IfOk result (λ top. (space : List Placed) → Shows space snapshot.now
+        → top.total ≡ length (coming space (tree plan.now) snapshot.now 0)) }
     ensures most { AreTopSteps (uses_of (shape query.now)) snapshot.now steps.old steps.new }
 {
     let uses = uses(alloc, query)?;

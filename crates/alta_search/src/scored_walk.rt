@@ -48,7 +48,8 @@ fn take_in<L: Ledger>(
     ensures asked { scorer.new.asked ≡ end_of row.now }
     ensures count { best.new.count ≡ best.old.count }
     ensures most { IfOk result (λ more. more ≤ 1) }
-    ensures takes { IfOk result (λ more. TakesIn scorer.old gone.now row.now best.old.count best.old.kept best.new.kept more) }
+    ensures takes { IfOk result (λ more. TakesIn scorer.old gone.now row.now best.old.count best.old.kept
+        best.new.kept more) }
 {
     let score = score_of(scorer, row, steps);
     if score == 0 || is_gone(gone, scorer.asked()) {

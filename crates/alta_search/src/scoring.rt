@@ -65,7 +65,8 @@ fn is_at(tests: &[TestLists], index: usize, test: &Test) -> bool
 
 /// The index of the first of the used tests that is this one, or one past all tests.
 fn index_for(tests: &[TestLists], used: &[usize], test: &Test) -> usize
-    ensures { lists_at tests.now result ≡ lists_for test.now (map (test_at tests.now) used.now) (map (lists_at tests.now) used.now) }
+    ensures { lists_at tests.now result ≡ lists_for test.now (map (test_at tests.now) used.now)
+        (map (lists_at tests.now) used.now) }
 {
     for index in used {
         if is_at(tests, *index, test) {
@@ -82,7 +83,9 @@ fn indexes_for(
     used: &[usize],
     uses: &[Use],
 ) -> Result<Vec<usize>, AllocError>
-    ensures { IfOk result (λ is. map (lists_at tests.now) is.items ≡ map (λ (u : Use). lists_for u.test (map (test_at tests.now) used.now) (map (lists_at tests.now) used.now)) uses.now) }
+    ensures { IfOk result (λ is. map (lists_at tests.now) is.items
+        ≡ map (λ (u : Use). lists_for u.test (map (test_at tests.now) used.now)
+        (map (lists_at tests.now) used.now)) uses.now) }
 {
     let mut indexes = Vec::with_capacity(alloc, uses.len())?;
     for one in uses {
@@ -117,7 +120,8 @@ pub(crate) fn scorer<'a, L: Ledger>(
 ) -> Result<Scorer<TestReader<'a>>, AllocError>
     requires { 0 < length snapshot.now.tests }
     ensures scorer { IfOk result (λ s. IsScorerOf uses snapshot.now s steps.old steps.new) }
-    ensures most { steps.new ≤ steps.old + lists (scoring_lists uses snapshot.now) + count_lists (last_lists snapshot.now) }
+    ensures most { steps.new ≤ steps.old + lists (scoring_lists uses snapshot.now)
+        + count_lists (last_lists snapshot.now) }
 {
     let (tests, used) = snapshot.uses();
     let indexes = indexes_for(alloc, tests, used, uses.as_slice())?;
@@ -150,7 +154,8 @@ pub(crate) fn score_of<L: Ledger>(
     requires few { length scorer.old.uses ≤ 64 }
     requires may { IsScorable scorer.old.asked row.now }
     ensures has { HasScored scorer.old scorer.new steps.old steps.new }
-    ensures score { result ≡ range_score scorer.old.uses (map reader_list scorer.old.readers) (reader_list scorer.old.titles) row.now.first (end_of row.now) }
+    ensures score { result ≡ range_score scorer.old.uses (map reader_list scorer.old.readers)
+        (reader_list scorer.old.titles) row.now.first (end_of row.now) }
     ensures asked { scorer.new.asked ≡ end_of row.now }
 {
     scorer.score(row.first, row.first + row.cells - 1, steps)
@@ -165,8 +170,10 @@ pub(crate) fn score_row<L: Ledger>(
 ) -> u64
     ensures has { HasScored scorer.old scorer.new steps.old steps.new }
     ensures score { length scorer.old.uses ≤ 64 → IsScorable scorer.old.asked row.now
-        → result ≡ range_score scorer.old.uses (map reader_list scorer.old.readers) (reader_list scorer.old.titles) row.now.first (end_of row.now) }
-    ensures asked { length scorer.old.uses ≤ 64 → IsScorable scorer.old.asked row.now → scorer.new.asked ≡ end_of row.now }
+        → result ≡ range_score scorer.old.uses (map reader_list scorer.old.readers)
+        (reader_list scorer.old.titles) row.now.first (end_of row.now) }
+    ensures asked { length scorer.old.uses ≤ 64 → IsScorable scorer.old.asked row.now
+        → scorer.new.asked ≡ end_of row.now }
 {
     if !may_be_scored(scorer, row) {
         return 0;

@@ -28,9 +28,21 @@ impl<'a> Model for Section<'a> {
 
     ghost Value = { View };
 
-    ghost view = { λ s. record { tests = map (test_at s.tests.now) s.uses.now; keys = map (keys_at s.tests.now) s.uses.now; cuts = map (lists_at s.tests.now) s.uses.now; rows = s.rows.now; gone = s.gone.now } };
+    ghost view = { λ s. record {
+      tests = map (test_at s.tests.now) s.uses.now;
+      keys = map (keys_at s.tests.now) s.uses.now;
+      cuts = map (lists_at s.tests.now) s.uses.now;
+      rows = s.rows.now;
+      gone = s.gone.now;
+    } };
 
-    ghost invariant = { λ s. IsView (record { tests = map (test_at s.tests.now) s.uses.now; keys = map (keys_at s.tests.now) s.uses.now; cuts = map (lists_at s.tests.now) s.uses.now; rows = s.rows.now; gone = s.gone.now }) };
+    ghost invariant = { λ s. IsView (record {
+      tests = map (test_at s.tests.now) s.uses.now;
+      keys = map (keys_at s.tests.now) s.uses.now;
+      cuts = map (lists_at s.tests.now) s.uses.now;
+      rows = s.rows.now;
+      gone = s.gone.now;
+    }) };
 }
 
 impl<'a> Section<'a> {
@@ -41,8 +53,20 @@ impl<'a> Section<'a> {
         rows: &'a AllRows,
         gone: &'a [Loc],
     ) -> Section<'a>
-        requires { IsView (record { tests = map (test_at tests.now) uses.now; keys = map (keys_at tests.now) uses.now; cuts = map (lists_at tests.now) uses.now; rows = rows.now; gone = gone.now }) }
-        ensures { result ≡ record { tests = map (test_at tests.now) uses.now; keys = map (keys_at tests.now) uses.now; cuts = map (lists_at tests.now) uses.now; rows = rows.now; gone = gone.now } }
+        requires { IsView (record {
+          tests = map (test_at tests.now) uses.now;
+          keys = map (keys_at tests.now) uses.now;
+          cuts = map (lists_at tests.now) uses.now;
+          rows = rows.now;
+          gone = gone.now;
+        }) }
+        ensures { result ≡ record {
+          tests = map (test_at tests.now) uses.now;
+          keys = map (keys_at tests.now) uses.now;
+          cuts = map (lists_at tests.now) uses.now;
+          rows = rows.now;
+          gone = gone.now;
+        } }
     {
         Section {
             tests,

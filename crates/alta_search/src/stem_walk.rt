@@ -33,7 +33,8 @@ fn stem_by_kind<'a, L: Ledger>(
     requires ends_unmoved { IsUnmovedReader ends }
     requires words_unmoved { All IsUnmovedReader words.items }
     requires gone { IsRising gone.now }
-    ensures count { result ≡ count_live (ends_with_any (reader_list ends.entry) (map reader_list words.entry.items)) gone.now 0 }
+    ensures count { result ≡ count_live (ends_with_any (reader_list ends.entry)
+        (map reader_list words.entry.items)) gone.now 0 }
     ensures steps { steps.new ≤ steps.old + (reader_left ends.entry + sum_by reader_left words.entry.items) }
 {
     match ends {
@@ -54,9 +55,11 @@ fn stem_uses<L: Ledger>(
     requires some { 0 < length uses.now }
     requires cut { All IsCut (map (lists_at tests.now) uses.now) }
     requires gone { IsRising gone.now }
-    ensures count { IfOk result (λ n. n ≡ count_live (ends_with_any (slice_index_or (map test_list (map (lists_at tests.now) uses.now)) 0 [])
+    ensures count { IfOk result (λ n. n ≡ count_live
+        (ends_with_any (slice_index_or (map test_list (map (lists_at tests.now) uses.now)) 0 [])
         (drop 1 (map test_list (map (lists_at tests.now) uses.now)))) gone.now 0) }
-    ensures most { steps.new ≤ steps.old + locations (map (lists_at tests.now) uses.now) + lists (map (lists_at tests.now) uses.now) }
+    ensures most { steps.new ≤ steps.old + locations (map (lists_at tests.now) uses.now)
+        + lists (map (lists_at tests.now) uses.now) }
 {
     let (front, words) = uses.split_at(1);
     let ends = reader(alloc, terms_at(tests, front[0]), steps)?;
@@ -72,7 +75,8 @@ pub(crate) fn count_stem<L: Ledger>(
     steps: &mut Steps<L>,
 ) -> Result<u64, AllocError>
     requires some { 0 < length snapshot.now.tests }
-    ensures { WalksOver snapshot.now steps.old steps.new result (λ n. (space : List Placed) (stem : Test) → Shows space snapshot.now → snapshot.now.tests ≡ document_end ∷ stem ∷ []
+    ensures { WalksOver snapshot.now steps.old steps.new result (λ n. (space : List Placed) (stem : Test)
+        → Shows space snapshot.now → snapshot.now.tests ≡ document_end ∷ stem ∷ []
         → n ≡ count_live (ends_with_any (ends_of space) (list_of space stem ∷ [])) snapshot.now.gone 0) }
 {
     let (tests, uses) = snapshot.uses();

@@ -42,4 +42,5 @@ pub record WantsPlace (limit : ℕ) (image : List ℕ) (reading : Reading) (need
 
 -- the first of these lines wants one
 abbrev pub FirstWantsPlace : ℕ → List ℕ → List (List ℕ) → ℕ → ℕ → Type 0
-FirstWantsPlace limit image lines need gap = ReadsFirst (λ (reading : Reading). WantsPlace limit image reading need gap) lines
+FirstWantsPlace limit image lines need gap =
+    ReadsFirst (λ (reading : Reading). WantsPlace limit image reading need gap) lines

@@ -9,7 +9,9 @@ use Rattle.alta_session.specs.declared.session.Session.{Session}
 use Rattle.alta_session.specs.declared.status.Status.{Status}
 
 -- It answers all of these lines, and the next may be answered, or it ends with a status that has its cause.
-pub record AnswersLines {C T : Type 0} (tells : Type 0) (told : C → Option (List Event)) (left : C → Option (List ℕ)) (take_faults give_faults : C → ℕ) (console console_now : C) (disk disk_now : DiskState) (session session_now : Session) (lines : List (List ℕ)) (result : Result T Status) : Type 0 where
+pub record AnswersLines {C T : Type 0} (tells : Type 0) (told : C → Option (List Event)) (left : C → Option (List ℕ))
+    (take_faults give_faults : C → ℕ) (console console_now : C) (disk disk_now : DiskState)
+    (session session_now : Session) (lines : List (List ℕ)) (result : Result T Status) : Type 0 where
   pub feeds : Feeds tells (told console) (told console_now) disk disk_now session session_now lines result
   pub can : OnOk result (CanAnswer tells disk_now session_now)
   pub accounts : Accounts tells left take_faults give_faults console console_now disk disk_now result

@@ -25,4 +25,5 @@ pub record AreFound (store : Store) (image : List ℕ) (q : Shape) (found : List
   pub searched : IsSearched store levels newest gone rows
   pub snapshot : View
   pub loaded : snapshot ≡ loaded_view levels newest.content image (tests_of (plan_of q)) gone
-  pub answers : (space : List Placed) → Shows space snapshot → found ≡ map answer_of (coming space (plan_of q) snapshot 0)
+  pub answers : (space : List Placed) → Shows space snapshot → found
+      ≡ map answer_of (coming space (plan_of q) snapshot 0)

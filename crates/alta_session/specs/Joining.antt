@@ -52,10 +52,13 @@ IdlesIn store (refuses fault) = ⊥
 -- A line that is read so finds damage only in a list of a level that its task joins, unless it searches; it wants a place only where its
 -- task's work finds none; and where it does nothing it calls no disk and fails for want of memory alone. Where it may change the index, its
 -- reply is that of each machine whose state the store knows.
-pub record Works {D : Type 0} (tells : Type 0) (state : D → DiskState) (disk disk_now : D) (store : Store) (reading : Reading) (result : Result (List ℕ) StoreFault) : Type 0 where
+pub record Works {D : Type 0} (tells : Type 0) (state : D → DiskState) (disk disk_now : D) (store : Store)
+    (reading : Reading) (result : Result (List ℕ) StoreFault) : Type 0 where
   pub joins : (SearchesIn reading → ⊥) → (s : State) (place : ℕ) → Knows store s → tells → result ≡ Err (Damaged place)
       → IsBrokenAmong (joins_where store (task_in (started_at s) reading)) (state disk).content place
-  pub lacks : (s : State) (o : Opened) (need gap : ℕ) → Knows store s → tells → IsOpened o (state disk).content → result ≡ Err (Full need gap)
+  pub lacks : (s : State) (o : Opened) (need gap : ℕ) → Knows store s → tells → IsOpened o (state disk).content
+      → result ≡ Err (Full need gap)
       → FindsNoPlace (state disk).limit (state disk).content store (task_in (started_at s) reading) o need gap
   pub idle : IdlesIn store reading → (disk_now ≡ disk) × IfErr result (λ e. e ≡ Memory)
-  pub replies : ¬ (ReadsIn reading) → (m : Machine) → Knows store m.state → IfOk result (λ reply. reply ≡ (answered m reading).1)
+  pub replies : ¬ (ReadsIn reading) → (m : Machine) → Knows store m.state
+      → IfOk result (λ reply. reply ≡ (answered m reading).1)

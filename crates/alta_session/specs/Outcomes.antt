@@ -21,13 +21,16 @@ pub record MakesIndex (tells : Type 0) (disk disk_now : DiskState) (status : Sta
   pub made : status ≡ Done → Stands tells disk_now (StandsFor empty_state)
   pub exists : tells → status ≡ Exists → ¬ (HasNoRoot disk.content)
   pub found : tells → ¬ (HasNoRoot disk.content) → (status ≡ Exists) ⊎ (status ≡ DiskFault)
-  pub too_small : (need gap : ℕ) → status ≡ Full need gap → (need ≡ HEAD_BYTES) × (gap ≡ disk.limit) × (disk.limit < HEAD_BYTES)
+  pub too_small : (need gap : ℕ) → status ≡ Full need gap → (need ≡ HEAD_BYTES) × (gap ≡ disk.limit)
+      × (disk.limit < HEAD_BYTES)
   pub kept : IsUnmade status → KeepsDisk tells disk disk_now
-  pub small : disk.limit < HEAD_BYTES → (status ≡ Exists) ⊎ ((status ≡ Full HEAD_BYTES disk.limit) ⊎ (status ≡ DiskFault))
+  pub small : disk.limit < HEAD_BYTES → (status ≡ Exists)
+      ⊎ ((status ≡ Full HEAD_BYTES disk.limit) ⊎ (status ≡ DiskFault))
 
 -- A run over a disk without an index, or with a broken one, says so, and leaves console and disk as they were. That yields only to want of
 -- memory and to a fault of the disk.
-pub record RefusesDisk {C : Type 0} (tells : Type 0) (console console_now : C) (disk disk_now : DiskState) (status : Status) : Type 0 where
+pub record RefusesDisk {C : Type 0} (tells : Type 0) (console console_now : C) (disk disk_now : DiskState)
+    (status : Status) : Type 0 where
   pub rooted : tells → HasNoRoot disk.content → (status ≡ NoRoot) ⊎ Yields status
   pub undamaged : (place : ℕ) → tells → IsBrokenAt disk.content place
       → (console_now ≡ console) × KeepsDisk tells disk disk_now × ((status ≡ Damaged place) ⊎ Yields status)
@@ -35,15 +38,19 @@ pub record RefusesDisk {C : Type 0} (tells : Type 0) (console console_now : C) (
 
 -- How a run ends: with all input read where it is done, with no status of another command, with `Full` only where a place is wanting, and,
 -- over a disk that stands for a state, with a status that completes it where no call of console and disk failed.
-pub record Finishes {C : Type 0} (tells : Type 0) (left : C → Option (List ℕ)) (take_faults give_faults : C → ℕ) (console console_now : C) (disk disk_now : DiskState) (status : Status) : Type 0 where
+pub record Finishes {C : Type 0} (tells : Type 0) (left : C → Option (List ℕ)) (take_faults give_faults : C → ℕ)
+    (console console_now : C) (disk disk_now : DiskState) (status : Status) : Type 0 where
   pub read_all : status ≡ Done → IfSome (left console_now) (λ bytes. bytes ≡ [])
   pub never : (status ≢ Usage) × (status ≢ Exists)
   pub full : (need gap : ℕ) → tells → status ≡ Full need gap → IsNarrow disk.limit disk_now.content need gap
-  pub complete : (s : State) → tells → StandsFor s disk.content → ¬ (Rose (take_faults console) (take_faults console_now)) → ¬ (Rose (give_faults console) (give_faults console_now))
+  pub complete : (s : State) → tells → StandsFor s disk.content
+      → ¬ (Rose (take_faults console) (take_faults console_now))
+      → ¬ (Rose (give_faults console) (give_faults console_now))
       → ¬ (Rose disk.faults disk_now.faults) → Completes status
 
 -- What a status says of the disk and of failed calls is so, whatever was asked for.
-pub record HasReason {C : Type 0} (tells : Type 0) (take_faults give_faults : C → ℕ) (console console_now : C) (disk disk_now : DiskState) (status : Status) : Type 0 where
+pub record HasReason {C : Type 0} (tells : Type 0) (take_faults give_faults : C → ℕ) (console console_now : C)
+    (disk disk_now : DiskState) (status : Status) : Type 0 where
   pub exists : tells → status ≡ Exists → ¬ (HasNoRoot disk.content)
   pub no_root : tells → status ≡ NoRoot → HasNoRoot disk.content
   -- where the content stands for a state, it is opened, and no damage is found

@@ -21,13 +21,15 @@ use Rattle.alta_meaning.specs.Standing.{StandsFor}
 use Rattle.alta_store.specs.Agreement.{MaySpeakOf}
 
 -- the image has this of the state after some of the lines, in order from the first
-pub record AfterSome (Has : State → List ℕ → Type 0) (start : Machine) (lines : List (List ℕ)) (image : List ℕ) : Type 0 where
+pub record AfterSome (Has : State → List ℕ → Type 0) (start : Machine) (lines : List (List ℕ))
+    (image : List ℕ) : Type 0 where
   pub reached : ℕ
   pub within : reached ≤ length lines
   pub has : Has (machine_after start (take reached lines)).state image
 
 -- the image has this of the state after this many of the lines, or after one more
-pub record After (Has : State → List ℕ → Type 0) (answered : ℕ) (start : Machine) (lines : List (List ℕ)) (image : List ℕ) : Type 0 where
+pub record After (Has : State → List ℕ → Type 0) (answered : ℕ) (start : Machine) (lines : List (List ℕ))
+    (image : List ℕ) : Type 0 where
   pub reached : ℕ
   pub least : answered ≤ reached
   pub most : reached ≤ answered + 1
@@ -59,28 +61,36 @@ pub record Progress (start : Machine) (lines : List (List ℕ)) (given : List �
   pub stand : (image : List ℕ) → images image → StandsAfter answered start lines image
 
 -- Of lines some were answered, and it ended with this status. Where each reply was given, the work of all is done.
-pub record StopsWithinFrom (disk disk_now : DiskState) (session : Session) (lines : List (List ℕ)) (given : List ℕ) (status : Status) (m : Machine) : Type 0 where
+pub record StopsWithinFrom (disk disk_now : DiskState) (session : Session) (lines : List (List ℕ)) (given : List ℕ)
+    (status : Status) (m : Machine) : Type 0 where
   pub progress : Progress m lines given disk_now.images
   pub images : LeavesOnly (StandsAfterSome m lines) disk disk_now
   pub full : (held : Holding) → IsBy session disk.content held → IsFullOnly disk.limit held m lines given status
-  pub works : (held : Holding) → IsBy session disk.content held → given ≡ concat (replies m lines) → IsDone (worked_lines disk.limit m held lines) disk_now
+  pub works : (held : Holding) → IsBy session disk.content held → given ≡ concat (replies m lines)
+      → IsDone (worked_lines disk.limit m held lines) disk_now
   pub undamaged : (place : ℕ) → status ≡ Damaged place → ⊥
   pub spends : Spends disk disk_now session m lines
 
 -- The same on a disk that may stand for no state. These are the replies to some of the lines, and a part of the next: each of the images may
 -- speak of the state after the lines of the whole replies, or after one more, and at no moment did one speak of another than after some.
-pub record SpeaksWithin (disk disk_now : DiskState) (lines texts : List (List ℕ)) (part : List ℕ) (m : Machine) : Type 0 where
+pub record SpeaksWithin (disk disk_now : DiskState) (lines texts : List (List ℕ)) (part : List ℕ)
+    (m : Machine) : Type 0 where
   pub replies : AreRepliesTo m lines texts part
   pub now : Each disk_now.images (SpeaksAfter (length texts) m lines)
   pub images : LeavesOnly (SpeaksAfterSome m lines) disk disk_now
 
 -- Damage was found, and a place was wanting, by the first line without a whole reply.
-pub record StopsWithin (tells : Type 0) (told told_now : Option (List Event)) (disk disk_now : DiskState) (session : Session) (lines : List (List ℕ)) (status : Status) : Type 0 where
+pub record StopsWithin (tells : Type 0) (told told_now : Option (List Event)) (disk disk_now : DiskState)
+    (session : Session) (lines : List (List ℕ)) (status : Status) : Type 0 where
   pub given : List ℕ
   pub gave : Gives told told_now given
   pub replied : GivesReplies lines given
-  pub damaged : (place : ℕ) → tells → status ≡ Damaged place → FirstFindsDamage disk_now.content (drop (length replied.texts) lines) place
-  pub wanting : (need gap : ℕ) → tells → status ≡ Full need gap → FirstWantsPlace disk_now.limit disk_now.content (drop (length replied.texts) lines) need gap
+  pub damaged : (place : ℕ) → tells → status ≡ Damaged place
+      → FirstFindsDamage disk_now.content (drop (length replied.texts) lines) place
+  pub wanting : (need gap : ℕ) → tells → status ≡ Full need gap
+      → FirstWantsPlace disk_now.limit disk_now.content (drop (length replied.texts) lines) need gap
   pub settled : KeepsSettled tells disk disk_now lines
-  pub each : (m : Machine) → tells → AgreesOn tells disk session m → StopsWithinFrom disk disk_now session lines given status m
-  pub spoken : (m : Machine) → tells → SpeaksOn tells disk session m → SpeaksWithin disk disk_now lines replied.texts replied.part m
+  pub each : (m : Machine) → tells → AgreesOn tells disk session m
+      → StopsWithinFrom disk disk_now session lines given status m
+  pub spoken : (m : Machine) → tells → SpeaksOn tells disk session m
+      → SpeaksWithin disk disk_now lines replied.texts replied.part m

@@ -19,8 +19,10 @@ pub record GivesReplies (lines : List (List ℕ)) (given : List ℕ) : Type 0 wh
 abbrev pub AreRepliesTo : Machine → List (List ℕ) → List (List ℕ) → List ℕ → Type 0
 AreRepliesTo m [] [] part = part ≡ []
 AreRepliesTo m [] (text ∷ texts) part = ⊥
-AreRepliesTo m (line ∷ lines) [] part = ¬ (OnlyReads line) → (left : List ℕ) × ((step m line).1 ≡ part ++ left) × (0 < length left)
-AreRepliesTo m (line ∷ lines) (text ∷ texts) part = (¬ (OnlyReads line) → text ≡ (step m line).1) × AreRepliesTo (step m line).0 lines texts part
+AreRepliesTo m (line ∷ lines) [] part = ¬ (OnlyReads line) → (left : List ℕ)
+    × ((step m line).1 ≡ part ++ left) × (0 < length left)
+AreRepliesTo m (line ∷ lines) (text ∷ texts) part = (¬ (OnlyReads line) → text ≡ (step m line).1)
+    × AreRepliesTo (step m line).0 lines texts part
 
 -- All that was given in these events is the first of the texts, one for each whole line that was taken.
 pub record IsAnswered (texts : List (List ℕ)) (events : List Event) : Type 0 where

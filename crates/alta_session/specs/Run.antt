@@ -26,7 +26,8 @@ use Rattle.alta_store.specs.Agreement.{MaySpeakOf}
 
 -- At each take, what was given so far is the replies to the whole lines taken so far.
 abbrev pub AnswersInTime : Machine → List Event → Type 0
-AnswersInTime start run = (k : ℕ) → TakesAt run k → given_in (take k run) ≡ concat (replies start (whole (taken_in (take k run))))
+AnswersInTime start run = (k : ℕ) → TakesAt run k → given_in (take k run)
+    ≡ concat (replies start (whole (taken_in (take k run))))
 
 -- What a run gives that begins at this machine and ends with this status: the replies of the machine.
 pub record Replies (limit : ℕ) (start : Machine) (run : List Event) (status : Status) : Type 0 where
@@ -74,28 +75,35 @@ abbrev pub unanswered : (limit : ℕ) (run : List Event) (status : Status) → R
 unanswered limit run status replied = drop (length replied.gives.texts) (lines_in limit run)
 
 -- The run of an open session.
-pub record RunsFrom (limit : ℕ) (disk disk_now : DiskState) (session : Session) (run : List Event) (status : Status) (m : Machine) : Type 0 where
+pub record RunsFrom (limit : ℕ) (disk disk_now : DiskState) (session : Session) (run : List Event) (status : Status)
+    (m : Machine) : Type 0 where
   pub replies : Replies limit m run status
   pub keeps : KeepsPrefix limit m run disk disk_now
   -- of what the content has at the start
-  pub full : (held : Holding) → IsBy session disk.content held → IsFullExactly disk.limit held m (lines_in limit run) (given_in run) status
+  pub full : (held : Holding) → IsBy session disk.content held
+      → IsFullExactly disk.limit held m (lines_in limit run) (given_in run) status
   -- where each line was answered
-  pub levels : (held : Holding) → IsBy session disk.content held → AnswersAll limit m run → IsDone (worked_lines disk.limit m held (lines_in limit run)) disk_now
+  pub levels : (held : Holding) → IsBy session disk.content held → AnswersAll limit m run
+      → IsDone (worked_lines disk.limit m held (lines_in limit run)) disk_now
   pub undamaged : (place : ℕ) → status ≡ Damaged place → ⊥
   pub spends : Spends disk disk_now session m (lines_in limit run)
 
-pub record Runs (tells : Type 0) (limit : ℕ) (told told_now : Option (List Event)) (left left_now : Option (List ℕ)) (disk disk_now : DiskState) (session : Session) (status : Status) : Type 0 where
+pub record Runs (tells : Type 0) (limit : ℕ) (told told_now : Option (List Event)) (left left_now : Option (List ℕ))
+    (disk disk_now : DiskState) (session : Session) (status : Status) : Type 0 where
   pub run : List Event
   pub grew : Grows told told_now run
   pub read : Consumes left left_now (taken_in run)
   pub too_long : (status ≡ TooLong) ↔ (limit < length (taken_in run))
   pub last : limit < length (taken_in run) → EndsPast limit run
   pub replied : Replied limit run status
-  pub damaged : (place : ℕ) → tells → status ≡ Damaged place → FirstFindsDamage disk_now.content (unanswered limit run status replied) place
-  pub wanting : (need gap : ℕ) → tells → status ≡ Full need gap → FirstWantsPlace disk_now.limit disk_now.content (unanswered limit run status replied) need gap
+  pub damaged : (place : ℕ) → tells → status ≡ Damaged place
+      → FirstFindsDamage disk_now.content (unanswered limit run status replied) place
+  pub wanting : (need gap : ℕ) → tells → status ≡ Full need gap
+      → FirstWantsPlace disk_now.limit disk_now.content (unanswered limit run status replied) need gap
   pub settled : KeepsSettled tells disk disk_now (lines_in limit run)
   pub each : (m : Machine) → tells → AgreesOn tells disk session m → RunsFrom limit disk disk_now session run status m
-  pub spoken : (m : Machine) → tells → SpeaksOn tells disk session m → SpeaksWithin disk disk_now (lines_in limit run) replied.gives.texts replied.gives.part m
+  pub spoken : (m : Machine) → tells → SpeaksOn tells disk session m
+      → SpeaksWithin disk disk_now (lines_in limit run) replied.gives.texts replied.gives.part m
 
 -- The disk failed as it was opened: no line was taken, and what the disk may hold now it might have held before.
 pub record NotOpened (disk disk_now : DiskState) (run : List Event) (status : Status) : Type 0 where
@@ -112,18 +120,22 @@ pub record KeepsSince (limit : ℕ) (start : Machine) (run : List Event) (disk d
   pub still : disk_now.since moment disk.content
   pub now : Each disk_now.images (KeepsAnswered limit start run)
   pub since : Each (disk_now.since moment) (StandsAfterSome start (lines_in limit run))
-  pub ever : (image : List ℕ) → disk_now.since disk.clock image → disk.images image ⊎ StandsAfterSome start (lines_in limit run) image
+  pub ever : (image : List ℕ) → disk_now.since disk.clock image → disk.images image
+      ⊎ StandsAfterSome start (lines_in limit run) image
 
 -- A damaged index goes on being added to, and what was answered is there. Each line that may change the index was answered with the machine's
 -- reply. Each image that a stop may leave now may speak of the documents after each line whose reply was given whole, or after one line more.
 -- At each moment an image was one of the start, or may speak of the documents after some of the lines.
-pub record KeepsReplied (limit : ℕ) (start : Machine) (run : List Event) (gives : GivesReplies (lines_in limit run) (given_in run)) (disk disk_now : DiskState) : Type 0 where
+pub record KeepsReplied (limit : ℕ) (start : Machine) (run : List Event)
+    (gives : GivesReplies (lines_in limit run) (given_in run)) (disk disk_now : DiskState) : Type 0 where
   pub replies : AreRepliesTo start (lines_in limit run) gives.texts gives.part
   pub now : Each disk_now.images (SpeaksAfter (length gives.texts) start (lines_in limit run))
-  pub ever : (image : List ℕ) → disk_now.since disk.clock image → disk.images image ⊎ SpeaksAfterSome start (lines_in limit run) image
+  pub ever : (image : List ℕ) → disk_now.since disk.clock image → disk.images image
+      ⊎ SpeaksAfterSome start (lines_in limit run) image
 
 -- A run that opens what is on the disk.
-pub record Serves (tells : Type 0) (limit : ℕ) (told told_now : Option (List Event)) (left left_now : Option (List ℕ)) (disk disk_now : DiskState) (status : Status) : Type 0 where
+pub record Serves (tells : Type 0) (limit : ℕ) (told told_now : Option (List Event)) (left left_now : Option (List ℕ))
+    (disk disk_now : DiskState) (status : Status) : Type 0 where
   pub run : List Event
   pub grew : Grows told told_now run
   pub read : Consumes left left_now (taken_in run)
@@ -131,14 +143,17 @@ pub record Serves (tells : Type 0) (limit : ℕ) (told told_now : Option (List E
   pub last : limit < length (taken_in run) → EndsPast limit run
   pub replied : Replied limit run status
   -- damage is found as the index is opened, or by the first line without a whole reply
-  pub damaged : (place : ℕ) → tells → status ≡ Damaged place → IsBrokenAt disk.content place ⊎ FirstFindsDamage disk_now.content (unanswered limit run status replied) place
+  pub damaged : (place : ℕ) → tells → status ≡ Damaged place → IsBrokenAt disk.content place
+      ⊎ FirstFindsDamage disk_now.content (unanswered limit run status replied) place
   -- and a place is wanting where the work of that line finds none
-  pub wanting : (need gap : ℕ) → tells → status ≡ Full need gap → FirstWantsPlace disk_now.limit disk_now.content (unanswered limit run status replied) need gap
+  pub wanting : (need gap : ℕ) → tells → status ≡ Full need gap
+      → FirstWantsPlace disk_now.limit disk_now.content (unanswered limit run status replied) need gap
   -- Whatever was pending at the start, nothing is at the end of a run that took something and whose lines change nothing, also where a call
   -- failed. So the opening syncs before the first take: a later sync might fail.
   pub firm : tells → run ≢ [] → All OnlyReads (lines_in limit run) → Only disk_now.content disk_now.images
   -- where the content may speak of a state, also where a list is broken
-  pub spoken : (s : State) → tells → MaySpeakOf s disk.content → NotOpened disk disk_now run status ⊎ KeepsReplied limit (started_at s) run replied.gives disk disk_now
+  pub spoken : (s : State) → tells → MaySpeakOf s disk.content → NotOpened disk disk_now run status
+      ⊎ KeepsReplied limit (started_at s) run replied.gives disk disk_now
   -- where the content stands for a state
   pub replies : (s : State) → tells → StandsFor s disk.content → Replies limit (started_at s) run status
   -- and has this
@@ -146,13 +161,17 @@ pub record Serves (tells : Type 0) (limit : ℕ) (told told_now : Option (List E
       → IsFullExactly disk.limit held (started_at s) (lines_in limit run) (given_in run) status
   -- and each line was answered: the levels, extents, deleted ends and entries at the end are those that the work of the lines gives; and
   -- where there were lines, nothing is pending
-  pub levels : (s : State) (held : Holding) → tells → StandsFor s disk.content → IsFirst disk.content held → AnswersAll limit (started_at s) run
+  pub levels : (s : State) (held : Holding) → tells → StandsFor s disk.content → IsFirst disk.content held
+      → AnswersAll limit (started_at s) run
       → IsWorked (worked_lines disk.limit (started_at s) held (lines_in limit run)) (IsOn disk_now.content)
-  pub settled : (s : State) → tells → StandsFor s disk.content → AnswersAll limit (started_at s) run → 0 < length (lines_in limit run) → Only disk_now.content disk_now.images
+  pub settled : (s : State) → tells → StandsFor s disk.content → AnswersAll limit (started_at s) run
+      → 0 < length (lines_in limit run) → Only disk_now.content disk_now.images
   -- where each image stands for a state
   pub keeps : (s : State) → tells → Stands tells disk (StandsFor s) → KeepsPrefix limit (started_at s) run disk disk_now
   -- where the content does, whatever was pending
-  pub reopened : (s : State) → tells → StandsFor s disk.content → NotOpened disk disk_now run status ⊎ KeepsSince limit (started_at s) run disk disk_now
+  pub reopened : (s : State) → tells → StandsFor s disk.content → NotOpened disk disk_now run status
+      ⊎ KeepsSince limit (started_at s) run disk disk_now
   -- and no line changes the index: the bytes that opening reads, and those of the lists that the lines load
   pub reads : (s : State) → tells → (stands : StandsFor s disk.content) → All OnlyReads (lines_in limit run)
-      → disk_now.taken ≤ disk.taken + (opening_bytes stands.opened.root disk.content + lines_bytes stands.opened.levels (newest_of_opened stands.opened) (started_at s) (lines_in limit run))
+      → disk_now.taken ≤ disk.taken + (opening_bytes stands.opened.root disk.content
+      + lines_bytes stands.opened.levels (newest_of_opened stands.opened) (started_at s) (lines_in limit run))

@@ -48,7 +48,8 @@ MayChange line = ¬ (OnlyReads line)
 
 -- the lists that a session loads for a line
 abbrev pub session_loads : Session → List ℕ → List Load
-session_loads session line = line_loads (levels_of session.store) (newest_in session.store) (length session.cursors) line
+session_loads session line = line_loads (levels_of session.store) (newest_in session.store)
+    (length session.cursors) line
 
 -- the bytes of the lists that a line loads from levels, beside these newest documents
 unfoldable pub line_bytes : List Tables → Content → Machine → List ℕ → ℕ
@@ -57,7 +58,8 @@ line_bytes levels newest m line = load_sizes (line_loads levels newest (length m
 -- those that lines load, one behind the other, from a machine on
 abbrev pub lines_bytes : List Tables → Content → Machine → List (List ℕ) → ℕ
 lines_bytes levels newest m [] = 0
-lines_bytes levels newest m (line ∷ lines) = line_bytes levels newest m line + lines_bytes levels newest (step m line).0 lines
+lines_bytes levels newest m (line ∷ lines) = line_bytes levels newest m line
+    + lines_bytes levels newest (step m line).0 lines
 
 -- ---- from an image on
 
@@ -74,7 +76,8 @@ newest_of_opened opened = content_of (newest_of opened.root opened.entries)
 -- Where no line changes the index, no more bytes were read than the lists have that the lines load.
 abbrev pub Spends : DiskState → DiskState → Session → Machine → List (List ℕ) → Type 0
 Spends disk disk_now session m lines =
-    All OnlyReads lines → disk_now.taken ≤ disk.taken + lines_bytes (levels_of session.store) (newest_in session.store) m lines
+    All OnlyReads lines → disk_now.taken ≤ disk.taken + lines_bytes (levels_of session.store)
+    (newest_in session.store) m lines
 
 -- and the store is as it was
 abbrev pub KeepsStore : Session → Session → List (List ℕ) → Type 0
@@ -82,4 +85,5 @@ KeepsStore session session_now lines = All OnlyReads lines → session_now.store
 
 -- and nothing is pending on the disk then, where nothing was before
 abbrev pub KeepsSettled : Type 0 → DiskState → DiskState → List (List ℕ) → Type 0
-KeepsSettled tells disk disk_now lines = All OnlyReads lines → tells → Only disk.content disk.images → Only disk_now.content disk_now.images
+KeepsSettled tells disk disk_now lines = All OnlyReads lines → tells → Only disk.content disk.images
+    → Only disk_now.content disk_now.images

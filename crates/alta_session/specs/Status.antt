@@ -33,7 +33,8 @@ line_of Exists = codes "alta: index exists"
 
 -- a status with which answering a line may end a run, where the disk stands for a state
 abbrev pub StopsLine : Status → Type 0
-StopsLine status = (status ≡ Memory) ⊎ ((status ≡ DiskFault) ⊎ ((status ≡ GiveFault) ⊎ ((need gap : ℕ) × (status ≡ Full need gap))))
+StopsLine status = (status ≡ Memory) ⊎ ((status ≡ DiskFault)
+    ⊎ ((status ≡ GiveFault) ⊎ ((need gap : ℕ) × (status ≡ Full need gap))))
 
 -- or, where it stands for none, damage
 abbrev pub EndsLine : Status → Type 0
@@ -45,7 +46,8 @@ EndsRunning status = (status ≡ Done) ⊎ ((status ≡ TakeFault) ⊎ ((status 
 
 -- a status that a run has where no call of the console and of the disk fails
 abbrev pub Completes : Status → Type 0
-Completes status = (status ≡ Done) ⊎ ((status ≡ TooLong) ⊎ ((status ≡ Memory) ⊎ ((need gap : ℕ) × (status ≡ Full need gap))))
+Completes status = (status ≡ Done) ⊎ ((status ≡ TooLong)
+    ⊎ ((status ≡ Memory) ⊎ ((need gap : ℕ) × (status ≡ Full need gap))))
 
 -- neither that there is no index, nor that it is damaged
 pub record EndsOpened (status : Status) : Type 0 where
@@ -77,4 +79,5 @@ status_for _ = Memory
 
 -- a status with which the making of an index may end
 abbrev pub EndsInit : Status → Type 0
-EndsInit status = (status ≡ Done) ⊎ ((status ≡ DiskFault) ⊎ ((status ≡ Exists) ⊎ ((need gap : ℕ) × (status ≡ Full need gap))))
+EndsInit status = (status ≡ Done) ⊎ ((status ≡ DiskFault)
+    ⊎ ((status ≡ Exists) ⊎ ((need gap : ℕ) × (status ≡ Full need gap))))

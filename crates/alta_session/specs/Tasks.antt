@@ -24,7 +24,8 @@ entry_for (Some n) name title body = Replace n name title body
 -- the entry of a document, where its name can be one and a number is left
 unfoldable pub task_of_add : List ℕ → List ℕ → List ℕ → State → Option Task
 task_of_add name title body s =
-    if is_name name && nat_lt s.next 4294967296 then Some (enters (entry_for (number_of name s) name title body)) else None
+    if is_name name && nat_lt s.next 4294967296
+    then Some (enters (entry_for (number_of name s) name title body)) else None
 
 -- the entry that deletes the number of a name, where the name can be one and has a number
 unfoldable pub task_of_delete : List ℕ → State → Option Task
@@ -66,7 +67,8 @@ worked_line limit m held line = worked_where limit held (task_of m line)
 -- what lines make of it, one behind the other
 abbrev pub worked_lines : ℕ → Machine → Holding → List (List ℕ) → Result Holding Full
 worked_lines limit m held [] = Ok held
-worked_lines limit m held (line ∷ lines) = worked_line limit m held line >>= λ now. worked_lines limit (step m line).0 now lines
+worked_lines limit m held (line ∷ lines) = worked_line limit m held line
+    >>= λ now. worked_lines limit (step m line).0 now lines
 
 -- The work was done, and this holds of what is held then.
 pub record IsWorked (work : Result Holding Full) (Here : Holding → Type 0) : Type 0 where

@@ -91,7 +91,8 @@ fn report<C: Console, D: Disk>(
     disk: &mut D,
 ) -> Result<(), Status>
     requires { CanAnswer D.tells (D.state disk.old) session.old }
-    ensures { AnswersLines D.tells C.told C.left C.take_faults C.give_faults console.old console.new (D.state disk.old) (D.state disk.new) session.old session.new asked result }
+    ensures { AnswersLines D.tells C.told C.left C.take_faults C.give_faults console.old console.new (D.state disk.old)
+        (D.state disk.new) session.old session.new asked result }
 {
     let mut index = 0;
     'lines: loop {
@@ -114,7 +115,8 @@ pub(crate) fn demo<C: Console, D: Disk>(
     disk: &mut D,
 ) -> Status
     requires { n ≤ 100000 }
-    ensures demo { Demonstrates D.tells (script n) asked (C.told console.old) (C.told console.new) (D.state disk.old) (D.state disk.new) result }
+    ensures demo { Demonstrates D.tells (script n) asked (C.told console.old) (C.told console.new) (D.state disk.old)
+        (D.state disk.new) result }
     ensures input_kept { C.left console.new ≡ C.left console.old }
     ensures give_fault { result ≡ Status.GiveFault → Rose (C.give_faults console.old) (C.give_faults console.new) }
     ensures disk_fault { result ≡ Status.DiskFault → Rose (D.state disk.old).faults (D.state disk.new).faults }

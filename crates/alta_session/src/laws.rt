@@ -37,9 +37,12 @@ use alta_store::{Store, a_search_sees_the_state};
 /// may leave afterwards stands for the state after some of the lines taken, in order from the first, and each line whose reply was
 /// given whole is among them.
 pub fn what_was_answered_is_kept<C: Console, D: Disk>()
-    ensures { (console console_now : C) (disk disk_now : D) (limit : ℕ) (status : Status) (s : State) → Stands D.tells (D.state disk) (StandsFor s)
-        → (serves : Serves D.tells limit (C.told console) (C.told console_now) (C.left console) (C.left console_now) (D.state disk) (D.state disk_now) status)
-        → Each (D.state disk_now).images (HoldsAnswered StandsFor (started_at s) (lines_in limit serves.run) (given_in serves.run)) }
+    ensures { (console console_now : C) (disk disk_now : D) (limit : ℕ) (status : Status) (s : State)
+        → Stands D.tells (D.state disk) (StandsFor s)
+        → (serves : Serves D.tells limit (C.told console) (C.told console_now) (C.left console) (C.left
+        console_now) (D.state disk) (D.state disk_now) status)
+        → Each (D.state disk_now).images (HoldsAnswered StandsFor (started_at s) (lines_in limit serves.run)
+        (given_in serves.run)) }
 {}
 
 /// What was answered as stored is there in a damaged archive too, which takes changes until a join reads a broken list. Where all that a
@@ -48,12 +51,18 @@ pub fn what_was_answered_is_kept<C: Console, D: Disk>()
 /// whole, or after one line more. Where each of the lines may change the index, as an add or a delete, these are the lines whose replies
 /// begin what was given.
 pub fn what_was_answered_is_kept_beside_damage<C: Console, D: Disk>()
-    ensures replied { (console console_now : C) (disk disk_now : D) (limit : ℕ) (status : Status) (s : State) → Stands D.tells (D.state disk) (MaySpeakOf s)
-        → (serves : Serves D.tells limit (C.told console) (C.told console_now) (C.left console) (C.left console_now) (D.state disk) (D.state disk_now) status)
-        → Each (D.state disk_now).images (SpeaksAfter (length serves.replied.gives.texts) (started_at s) (lines_in limit serves.run)) }
-    ensures changed { (console console_now : C) (disk disk_now : D) (limit : ℕ) (status : Status) (s : State) → Stands D.tells (D.state disk) (MaySpeakOf s)
-        → (serves : Serves D.tells limit (C.told console) (C.told console_now) (C.left console) (C.left console_now) (D.state disk) (D.state disk_now) status) → All MayChange (lines_in limit serves.run)
-        → Each (D.state disk_now).images (HoldsAnswered MaySpeakOf (started_at s) (lines_in limit serves.run) (given_in serves.run)) }
+    ensures replied { (console console_now : C) (disk disk_now : D) (limit : ℕ) (status : Status) (s : State)
+        → Stands D.tells (D.state disk) (MaySpeakOf s)
+        → (serves : Serves D.tells limit (C.told console) (C.told console_now) (C.left console) (C.left
+        console_now) (D.state disk) (D.state disk_now) status)
+        → Each (D.state disk_now).images (SpeaksAfter (length serves.replied.gives.texts) (started_at s)
+        (lines_in limit serves.run)) }
+    ensures changed { (console console_now : C) (disk disk_now : D) (limit : ℕ) (status : Status) (s : State)
+        → Stands D.tells (D.state disk) (MaySpeakOf s)
+        → (serves : Serves D.tells limit (C.told console) (C.told console_now) (C.left console) (C.left
+        console_now) (D.state disk) (D.state disk_now) status) → All MayChange (lines_in limit serves.run)
+        → Each (D.state disk_now).images (HoldsAnswered MaySpeakOf (started_at s) (lines_in limit serves.run)
+        (given_in serves.run)) }
 {}
 
 /// Each image that is opened may speak of a state, whatever its lists are, and each that stands for a state may speak of it. The promise
@@ -66,7 +75,8 @@ pub fn what_is_opened_may_speak()
 /// What an image that stands for a state has, as a run has it that begins there: levels, extents, deleted ends and entries, and no join
 /// goes on. Each promise about what is held at the start of a run speaks of it.
 pub fn what_stands_is_held()
-    ensures { (s : State) (image : List ℕ) → StandsFor s image → (held : Holding) × IsFirst image held × (state_of held.view ≡ s) }
+    ensures { (s : State) (image : List ℕ) → StandsFor s image → (held : Holding) × IsFirst image held
+        × (state_of held.view ≡ s) }
 {}
 
 /// A line leaves a well-formed state well formed: the numbers of its documents rise, from 1 to below the next number, and no
@@ -79,7 +89,8 @@ pub fn a_line_keeps_a_state()
 /// match the query, in order. A search is `Store::sources`, `alta_loading::load_ordered` over what it gives, in the order of the query's
 /// plan, and `alta_search::search` over the snapshot.
 pub fn a_search_answers_what_matches<D: Disk>()
-    ensures { (disk : D) (store : Store) (s : State) (q : Shape) (found : List AnswerRow) → D.tells → Agrees D.tells (D.state disk) store → StandsFor s (D.state disk).content
+    ensures { (disk : D) (store : Store) (s : State) (q : Shape) (found : List AnswerRow) → D.tells
+        → Agrees D.tells (D.state disk) store → StandsFor s (D.state disk).content
         → AreFound store (D.state disk).content q found → found ≡ map told (answers s.documents q) }
 {
     a_search_sees_the_state::<D>();
@@ -90,8 +101,10 @@ pub fn a_search_answers_what_matches<D: Disk>()
 /// and where each document has its own name as its only one, as each that was added has, this state answers a query for folded
 /// words by documents of the same names as the state that was dumped, in the same order.
 pub fn the_lines_of_a_dump_restore()
-    ensures state { (s : State) (lines : List (List ℕ)) → AreAddLines s.documents lines → machine_after (started_at empty_state) lines ≡ started_at (restored s.documents) }
-    ensures answers { (s : State) (lines : List (List ℕ)) (q : Shape) → AreAddLines s.documents lines → All HasItsName s.documents → IsWellFormed q → AsksForFoldings q
+    ensures state { (s : State) (lines : List (List ℕ)) → AreAddLines s.documents lines
+        → machine_after (started_at empty_state) lines ≡ started_at (restored s.documents) }
+    ensures answers { (s : State) (lines : List (List ℕ)) (q : Shape) → AreAddLines s.documents lines
+        → All HasItsName s.documents → IsWellFormed q → AsksForFoldings q
         → AnswersAlike s (machine_after (started_at empty_state) lines).state q }
 {
     the_lines_of_a_dump_answer_again();

@@ -40,7 +40,8 @@ pub(crate) fn answer<C: Console, D: Disk>(
 ) -> Result<(), Status>
     requires one_line { Lacks 10 line.now }
     requires can { CanAnswer D.tells (D.state disk.old) session.old }
-    ensures { AnswersLines D.tells C.told C.left C.take_faults C.give_faults console.old console.new (D.state disk.old) (D.state disk.new) session.old session.new (line.now ∷ []) result }
+    ensures { AnswersLines D.tells C.told C.left C.take_faults C.give_faults console.old console.new (D.state disk.old)
+        (D.state disk.new) session.old session.new (line.now ∷ []) result }
 {
     let reply = match session.line(alloc, disk, line) {
         Ok(reply) => reply,
@@ -78,7 +79,8 @@ fn end_line<C: Console, D: Disk>(
     requires begun_free { Lacks 10 begun.old.items }
     requires rest_free { Lacks 10 rest.now }
     requires can { CanAnswer D.tells (D.state disk.old) session.old }
-    ensures answers { AnswersLines D.tells C.told C.left C.take_faults C.give_faults console.old console.new (D.state disk.old) (D.state disk.new) session.old session.new ((begun.old.items ++ rest.now) ∷ []) result }
+    ensures answers { AnswersLines D.tells C.told C.left C.take_faults C.give_faults console.old console.new
+        (D.state disk.old) (D.state disk.new) session.old session.new ((begun.old.items ++ rest.now) ∷ []) result }
     ensures none_begun { OnOk result (begun.new.items ≡ []) }
 {
     if begun.is_empty() {
@@ -111,7 +113,8 @@ fn end_line_before<C: Console, D: Disk>(
     requires begun_free { Lacks 10 begun.old.items }
     requires rest_free { Lacks 10 rest.now }
     requires can { CanAnswer D.tells (D.state disk.old) session.old }
-    ensures answers { AnswersLines D.tells C.told C.left C.take_faults C.give_faults console.old console.new (D.state disk.old) (D.state disk.new) session.old session.new ((begun.old.items ++ rest.now) ∷ []) result }
+    ensures answers { AnswersLines D.tells C.told C.left C.take_faults C.give_faults console.old console.new
+        (D.state disk.old) (D.state disk.new) session.old session.new ((begun.old.items ++ rest.now) ∷ []) result }
     ensures none_begun { OnOk result (begun.new.items ≡ []) }
 {
     session.look_ahead(waiting);
@@ -134,13 +137,16 @@ fn feed_line<C: Console, D: Disk>(
     requires can { CanAnswer D.tells (D.state disk.old) session.old }
     ensures within { IfOk result (λ n. n ≤ length bytes.now) }
     ensures more { IfOk result (λ n. 0 < n) }
-    ensures ok { IfOk result (λ n. Fed D.tells (C.told console.old) (C.told console.new) (D.state disk.old) (D.state disk.new) session.old session.new (whole_from begun.old.items (take n bytes.now))) }
+    ensures ok { IfOk result (λ n. Fed D.tells (C.told console.old) (C.told console.new) (D.state disk.old)
+        (D.state disk.new) session.old session.new (whole_from begun.old.items (take n bytes.now))) }
     ensures begun { IfOk result (λ n. clip begun.new.items ≡ clip (begun_from begun.old.items (take n bytes.now))) }
-    ensures err { IfErr result (StopsWithin D.tells (C.told console.old) (C.told console.new) (D.state disk.old) (D.state disk.new) session.old (whole_from begun.old.items bytes.now)) }
+    ensures err { IfErr result (StopsWithin D.tells (C.told console.old) (C.told console.new) (D.state disk.old)
+        (D.state disk.new) session.old (whole_from begun.old.items bytes.now)) }
     ensures short { OnOk result (length begun.new.items ≤ LINE_LIMIT + 1) }
     ensures free { OnOk result (Lacks 10 begun.new.items) }
     ensures can { OnOk result (CanAnswer D.tells (D.state disk.new) session.new) }
-    ensures accounts { Accounts D.tells C.left C.take_faults C.give_faults console.old console.new (D.state disk.old) (D.state disk.new) result }
+    ensures accounts { Accounts D.tells C.left C.take_faults C.give_faults console.old console.new (D.state disk.old)
+        (D.state disk.new) result }
 {
     match memchr(b'\n', bytes) {
         None => match keep(begun, bytes) {
@@ -174,7 +180,8 @@ fn feed<C: Console, D: Disk>(
     requires short { length begun.old.items ≤ LINE_LIMIT + 1 }
     requires free { Lacks 10 begun.old.items }
     requires can { CanAnswer D.tells (D.state disk.old) session.old }
-    ensures answers { AnswersLines D.tells C.told C.left C.take_faults C.give_faults console.old console.new (D.state disk.old) (D.state disk.new) session.old session.new (whole_from begun.old.items piece.now) result }
+    ensures answers { AnswersLines D.tells C.told C.left C.take_faults C.give_faults console.old console.new
+        (D.state disk.old) (D.state disk.new) session.old session.new (whole_from begun.old.items piece.now) result }
     ensures begun { OnOk result (clip begun.new.items ≡ clip (begun_from begun.old.items piece.now)) }
     ensures short { OnOk result (length begun.new.items ≤ LINE_LIMIT + 1) }
     ensures free { OnOk result (Lacks 10 begun.new.items) }
@@ -199,7 +206,8 @@ fn finish<C: Console, D: Disk>(
 ) -> Result<(), Status>
     requires free { Lacks 10 begun.now }
     requires can { CanAnswer D.tells (D.state disk.old) session.old }
-    ensures { AnswersLines D.tells C.told C.left C.take_faults C.give_faults console.old console.new (D.state disk.old) (D.state disk.new) session.old session.new (last_piece begun.now) result }
+    ensures { AnswersLines D.tells C.told C.left C.take_faults C.give_faults console.old console.new (D.state disk.old)
+        (D.state disk.new) session.old session.new (last_piece begun.now) result }
 {
     if begun.is_empty() {
         return Ok(());
@@ -218,8 +226,10 @@ fn answer_pieces<C: Console, D: Disk>(
 ) -> Status
     requires room { 0 < length buffer.old }
     requires can { CanAnswer D.tells (D.state disk.old) session.old }
-    ensures run { Runs D.tells limit (C.told console.old) (C.told console.new) (C.left console.old) (C.left console.new) (D.state disk.old) (D.state disk.new) session.old result }
-    ensures accounts { AccountsForInput D.tells C.left C.take_faults C.give_faults console.old console.new (D.state disk.old) (D.state disk.new) result }
+    ensures run { Runs D.tells limit (C.told console.old) (C.told console.new) (C.left console.old)
+        (C.left console.new) (D.state disk.old) (D.state disk.new) session.old result }
+    ensures accounts { AccountsForInput D.tells C.left C.take_faults C.give_faults console.old console.new
+        (D.state disk.old) (D.state disk.new) result }
 {
     let mut begun = Vec::new(alloc);
     let mut taken: u64 = 0;
@@ -254,8 +264,10 @@ fn answer_lines<C: Console, D: Disk>(
     limit: u64,
 ) -> Status
     requires can { CanAnswer D.tells (D.state disk.old) session.old }
-    ensures run { Runs D.tells limit (C.told console.old) (C.told console.new) (C.left console.old) (C.left console.new) (D.state disk.old) (D.state disk.new) session.old result }
-    ensures accounts { AccountsForInput D.tells C.left C.take_faults C.give_faults console.old console.new (D.state disk.old) (D.state disk.new) result }
+    ensures run { Runs D.tells limit (C.told console.old) (C.told console.new) (C.left console.old)
+        (C.left console.new) (D.state disk.old) (D.state disk.new) session.old result }
+    ensures accounts { AccountsForInput D.tells C.left C.take_faults C.give_faults console.old console.new
+        (D.state disk.old) (D.state disk.new) result }
 {
     let mut buffer = match vec![in alloc; 0; PIECE] {
         Ok(buffer) => buffer,
@@ -288,11 +300,15 @@ pub fn serve<C: Console, D: Disk>(
     limit: u64,
 ) -> Status
     requires { limit ≤ 2 ^ 40 }
-    ensures run { Serves D.tells limit (C.told console.old) (C.told console.new) (C.left console.old) (C.left console.new) (D.state disk.old) (D.state disk.new) result }
-    ensures finishes { Finishes D.tells C.left C.take_faults C.give_faults console.old console.new (D.state disk.old) (D.state disk.new) result }
+    ensures run { Serves D.tells limit (C.told console.old) (C.told console.new) (C.left console.old)
+        (C.left console.new) (D.state disk.old) (D.state disk.new) result }
+    ensures finishes { Finishes D.tells C.left C.take_faults C.give_faults console.old console.new (D.state disk.old)
+        (D.state disk.new) result }
     ensures refuses { RefusesDisk D.tells console.old console.new (D.state disk.old) (D.state disk.new) result }
-    ensures reason { HasReason D.tells C.take_faults C.give_faults console.old console.new (D.state disk.old) (D.state disk.new) result }
-    ensures counts { KeepsCounts C.take_faults C.give_faults console.old console.new (D.state disk.old) (D.state disk.new) }
+    ensures reason { HasReason D.tells C.take_faults C.give_faults console.old console.new (D.state disk.old)
+        (D.state disk.new) result }
+    ensures counts { KeepsCounts C.take_faults C.give_faults console.old console.new (D.state disk.old)
+        (D.state disk.new) }
 {
     let mut session = match Session::start(alloc, disk) {
         Ok(session) => session,

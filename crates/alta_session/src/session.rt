@@ -55,12 +55,15 @@ impl Session {
     /// `Disk` where a call of the disk failed. `Memory` where there is no memory. `NoRoot` where the disk has no
     /// index. `Damaged` where the content breaks a rule of the format, with the first place that shows it.
     pub fn start<D: Disk>(alloc: Global, disk: &mut D) -> Result<Session, StoreFault>
-        ensures agrees { (s : State) → (D.tells → StandsFor s (D.state disk.old).content) → IfOk result (λ session. AgreesOn D.tells (D.state disk.new) session (started_at s)) }
+        ensures agrees { (s : State) → (D.tells → StandsFor s (D.state disk.old).content)
+            → IfOk result (λ session. AgreesOn D.tells (D.state disk.new) session (started_at s)) }
         ensures can { IfOk result (λ session. CanAnswer D.tells (D.state disk.new) session) }
         ensures job { IfOk result (λ session. session.store.job ≡ None) }
-        ensures keeps { (o : Opened) → D.tells → IsOpened o (D.state disk.old).content → IfOk result (λ session. Keeps session.store o) }
+        ensures keeps { (o : Opened) → D.tells → IsOpened o (D.state disk.old).content
+            → IfOk result (λ session. Keeps session.store o) }
         ensures opens { Opens D.tells (D.state disk.old) (D.state disk.new) result }
-        ensures settled { IfErr result (λ e. (e ≡ StoreFault.Disk) ⊎ Only (D.state disk.new).content (D.state disk.new).images) }
+        ensures settled { IfErr result (λ e. (e ≡ StoreFault.Disk)
+            ⊎ Only (D.state disk.new).content (D.state disk.new).images) }
     {
         match Store::open(alloc, disk) {
             Ok(store) => Ok(Session {
@@ -113,10 +116,12 @@ impl Session {
     ) -> Result<Text, StoreFault>
         requires one_line { Lacks 10 line.now }
         requires can { CanAnswer D.tells (D.state disk.old) self.old }
-        ensures answers { Answers D.tells D.state disk.old disk.new self.old self.new result (λ m. step m line.now) (λ m. task_of m line.now) }
+        ensures answers { Answers D.tells D.state disk.old disk.new self.old self.new result (λ m. step m line.now)
+            (λ m. task_of m line.now) }
         ensures not_sound { OnErr result (¬ (HasNotFailed self.new)) }
         ensures no_disk { Looks line.now → (disk.new ≡ disk.old) × IfErr result (λ e. e ≡ StoreFault.Memory) }
-        ensures loads { Searches line.now → Loads D.tells (session_loads self.old line.now) (D.state disk.old) (D.state disk.new) result }
+        ensures loads { Searches line.now → Loads D.tells (session_loads self.old line.now) (D.state disk.old)
+            (D.state disk.new) result }
         ensures kept { OnlyReads line.now → self.new.store ≡ self.old.store }
         ensures works { Works D.tells D.state disk.old disk.new self.old.store (reading_of line.now) result }
     {
@@ -138,9 +143,11 @@ impl Session {
     ) -> Result<Text, StoreFault>
         requires one_line { Lacks 10 line.now }
         requires can { CanAnswer D.tells (D.state disk.old) self.old }
-        ensures answers { Answers D.tells D.state disk.old disk.new self.old self.new result (λ m. step m line.now) (λ m. task_of m line.now) }
+        ensures answers { Answers D.tells D.state disk.old disk.new self.old self.new result (λ m. step m line.now)
+            (λ m. task_of m line.now) }
         ensures no_disk { Looks line.now → (disk.new ≡ disk.old) × IfErr result (λ e. e ≡ StoreFault.Memory) }
-        ensures loads { Searches line.now → Loads D.tells (session_loads self.old line.now) (D.state disk.old) (D.state disk.new) result }
+        ensures loads { Searches line.now → Loads D.tells (session_loads self.old line.now) (D.state disk.old)
+            (D.state disk.new) result }
         ensures kept { OnlyReads line.now → self.new.store ≡ self.old.store }
         ensures works { Works D.tells D.state disk.old disk.new self.old.store (reading_of line.now) result }
     {
@@ -186,8 +193,11 @@ impl Session {
     ) -> Result<Text, StoreFault>
         requires document { IsName name.now → IsDocument name.now title.now body.now }
         requires can { CanAnswer D.tells (D.state disk.old) self.old }
-        ensures answers { Answers D.tells D.state disk.old disk.new self.old self.new result (λ m. changed_by m (adding name.now title.now body.now m.state)) (λ m. task_of_add name.now title.now body.now m.state) }
-        ensures works { Works D.tells D.state disk.old disk.new self.old.store (asks (adds name.now title.now body.now)) result }
+        ensures answers { Answers D.tells D.state disk.old disk.new self.old self.new result
+            (λ m. changed_by m (adding name.now title.now body.now m.state))
+            (λ m. task_of_add name.now title.now body.now m.state) }
+        ensures works { Works D.tells D.state disk.old disk.new self.old.store
+            (asks (adds name.now title.now body.now)) result }
     {
         if !name_ok(name.as_bytes()) {
             return text(alloc, "! bad name\n");
@@ -218,8 +228,11 @@ impl Session {
         requires document { IsDocument name.now title.now body.now }
         requires taken { (s : State) → Knows self.old.store s → has_name name.now s ≡ true }
         requires can { CanAnswer D.tells (D.state disk.old) self.old }
-        ensures answers { Answers D.tells D.state disk.old disk.new self.old self.new result (λ m. changed_by m (adding name.now title.now body.now m.state)) (λ m. task_of_add name.now title.now body.now m.state) }
-        ensures works { Works D.tells D.state disk.old disk.new self.old.store (asks (adds name.now title.now body.now)) result }
+        ensures answers { Answers D.tells D.state disk.old disk.new self.old self.new result
+            (λ m. changed_by m (adding name.now title.now body.now m.state))
+            (λ m. task_of_add name.now title.now body.now m.state) }
+        ensures works { Works D.tells D.state disk.old disk.new self.old.store
+            (asks (adds name.now title.now body.now)) result }
     {
         let before = self.store.slot();
         match self.store.replace(disk, name, title, body) {
@@ -242,7 +255,8 @@ impl Session {
         name: &str,
     ) -> Result<Text, StoreFault>
         requires { CanAnswer D.tells (D.state disk.old) self.old }
-        ensures answers { Answers D.tells D.state disk.old disk.new self.old self.new result (λ m. changed_by m (deleting name.now m.state)) (λ m. task_of_delete name.now m.state) }
+        ensures answers { Answers D.tells D.state disk.old disk.new self.old self.new result
+            (λ m. changed_by m (deleting name.now m.state)) (λ m. task_of_delete name.now m.state) }
         ensures works { Works D.tells D.state disk.old disk.new self.old.store (asks (deletes name.now)) result }
     {
         if !name_ok(name.as_bytes()) {
@@ -264,7 +278,8 @@ impl Session {
     // Makes the newest documents a level.
     fn flush<D: Disk>(&mut self, alloc: Global, disk: &mut D) -> Result<Text, StoreFault>
         requires { CanAnswer D.tells (D.state disk.old) self.old }
-        ensures answers { Answers D.tells D.state disk.old disk.new self.old self.new result (λ m. (m, codes "ok\n")) (λ m. Some flushes) }
+        ensures answers { Answers D.tells D.state disk.old disk.new self.old self.new result (λ m. (m, codes "ok\n"))
+            (λ m. Some flushes) }
         ensures works { Works D.tells D.state disk.old disk.new self.old.store (asks asks_flush) result }
     {
         let before = self.store.slot();
@@ -280,7 +295,8 @@ impl Session {
     // Joins all levels and the newest documents to one.
     fn merge<D: Disk>(&mut self, alloc: Global, disk: &mut D) -> Result<Text, StoreFault>
         requires { CanAnswer D.tells (D.state disk.old) self.old }
-        ensures answers { Answers D.tells D.state disk.old disk.new self.old self.new result (λ m. (m, codes "ok\n")) (λ m. Some merges) }
+        ensures answers { Answers D.tells D.state disk.old disk.new self.old self.new result (λ m. (m, codes "ok\n"))
+            (λ m. Some merges) }
         ensures works { Works D.tells D.state disk.old disk.new self.old.store (asks asks_merge) result }
     {
         let before = self.store.slot();
@@ -296,7 +312,8 @@ impl Session {
     // Moves the join of the two oldest levels on by `n` terms.
     fn step<D: Disk>(&mut self, alloc: Global, disk: &mut D, n: u64) -> Result<Text, StoreFault>
         requires { CanAnswer D.tells (D.state disk.old) self.old }
-        ensures answers { Answers D.tells D.state disk.old disk.new self.old self.new result (λ m. (m, codes "ok\n")) (λ m. Some (steps n)) }
+        ensures answers { Answers D.tells D.state disk.old disk.new self.old self.new result (λ m. (m, codes "ok\n"))
+            (λ m. Some (steps n)) }
         ensures works { Works D.tells D.state disk.old disk.new self.old.store (asks (asks_step n)) result }
     {
         let before = self.store.slot();
@@ -379,7 +396,8 @@ fn added(alloc: Global, number: u64) -> Result<Text, StoreFault>
 
 // The reply to a line that adds in place of another document: the numbers of the one before and of the new one.
 fn replaced(alloc: Global, numbers: (u64, u64)) -> Result<Text, StoreFault>
-    ensures { IsReply (codes "replaced " ++ decimal numbers.0 ++ codes " by " ++ decimal numbers.1 ++ codes "\n") result }
+    ensures { IsReply (codes "replaced " ++ decimal numbers.0 ++ codes " by " ++ decimal numbers.1
+        ++ codes "\n") result }
 {
     let (old, new) = numbers;
     match format!(in alloc; "replaced {old} by {new}\n") {
@@ -400,7 +418,8 @@ fn deleted(alloc: Global, number: u64) -> Result<Text, StoreFault>
 
 // The reply with the counts of documents and words, and the next number.
 fn stats(alloc: Global, counts: (u64, u64, u64)) -> Result<Text, StoreFault>
-    ensures { IsReply (codes "documents " ++ decimal counts.0 ++ codes " words " ++ decimal counts.1 ++ codes " next " ++ decimal counts.2 ++ codes "\n") result }
+    ensures { IsReply (codes "documents " ++ decimal counts.0 ++ codes " words " ++ decimal counts.1 ++ codes " next "
+        ++ decimal counts.2 ++ codes "\n") result }
 {
     let (documents, words, next) = counts;
     match format!(in alloc; "documents {documents} words {words} next {next}\n") {

@@ -44,20 +44,33 @@ pub fn alta<C: Console, D: Disk>(
     console: &mut C,
     disk: &mut D,
 ) -> Status
-    ensures usage { result ≡ Status.Usage → (words.now ≢ codes "init" ∷ []) × (words.now ≢ codes "run" ∷ []) × ((n : ℕ) → AsksDemo words.now n → ⊥) }
-    ensures no_call { words.now ≢ codes "init" ∷ [] → words.now ≢ codes "run" ∷ [] → ((n : ℕ) → AsksDemo words.now n → ⊥)
+    ensures usage { result ≡ Status.Usage → (words.now ≢ codes "init" ∷ []) × (words.now ≢ codes "run" ∷ [])
+        × ((n : ℕ) → AsksDemo words.now n → ⊥) }
+    ensures no_call { words.now ≢ codes "init" ∷ [] → words.now ≢ codes "run" ∷ []
+        → ((n : ℕ) → AsksDemo words.now n → ⊥)
         → (result ≡ Status.Usage) × (console.new ≡ console.old) × (disk.new ≡ disk.old) }
 
-    ensures init { words.now ≡ codes "init" ∷ [] → MakesIndex D.tells (D.state disk.old) (D.state disk.new) result × (console.new ≡ console.old) }
+    ensures init { words.now ≡ codes "init" ∷ [] → MakesIndex D.tells (D.state disk.old) (D.state disk.new) result
+        × (console.new ≡ console.old) }
 
-    ensures run { words.now ≡ codes "run" ∷ [] → Serves D.tells (2 ^ 40) (C.told console.old) (C.told console.new) (C.left console.old) (C.left console.new) (D.state disk.old) (D.state disk.new) result }
-    ensures finishes { words.now ≡ codes "run" ∷ [] → Finishes D.tells C.left C.take_faults C.give_faults console.old console.new (D.state disk.old) (D.state disk.new) result }
-    ensures refuses { words.now ≡ codes "run" ∷ [] → RefusesDisk D.tells console.old console.new (D.state disk.old) (D.state disk.new) result }
+    ensures run { words.now ≡ codes "run" ∷ []
+        → Serves D.tells (2 ^ 40) (C.told console.old) (C.told console.new) (C.left console.old) (C.left console.new)
+        (D.state disk.old) (D.state disk.new) result }
+    ensures finishes { words.now ≡ codes "run" ∷ []
+        → Finishes D.tells C.left C.take_faults C.give_faults console.old console.new (D.state disk.old)
+        (D.state disk.new) result }
+    ensures refuses { words.now ≡ codes "run" ∷ []
+        → RefusesDisk D.tells console.old console.new (D.state disk.old) (D.state disk.new) result }
 
-    ensures demo { (n : ℕ) → AsksDemo words.now n → Demonstrates D.tells (script n) report (C.told console.old) (C.told console.new) (D.state disk.old) (D.state disk.new) result × (C.left console.new ≡ C.left console.old) }
-    ensures shown { (n : ℕ) → AsksDemo words.now n → D.tells → HasNoRoot (D.state disk.old).content → HEAD_BYTES ≤ (D.state disk.old).limit → ¬ (Rose (C.give_faults console.old) (C.give_faults console.new)) → ¬ (Rose (D.state disk.old).faults (D.state disk.new).faults) → Completes result }
+    ensures demo { (n : ℕ) → AsksDemo words.now n
+        → Demonstrates D.tells (script n) report (C.told console.old) (C.told console.new) (D.state disk.old)
+        (D.state disk.new) result × (C.left console.new ≡ C.left console.old) }
+    ensures shown { (n : ℕ) → AsksDemo words.now n → D.tells → HasNoRoot (D.state disk.old).content
+        → HEAD_BYTES ≤ (D.state disk.old).limit → ¬ (Rose (C.give_faults console.old) (C.give_faults console.new))
+        → ¬ (Rose (D.state disk.old).faults (D.state disk.new).faults) → Completes result }
 
-    ensures reason { HasReason D.tells C.take_faults C.give_faults console.old console.new (D.state disk.old) (D.state disk.new) result }
+    ensures reason { HasReason D.tells C.take_faults C.give_faults console.old console.new (D.state disk.old)
+        (D.state disk.new) result }
 {
     if is_word(words, "init") {
         return init(disk);

@@ -22,6 +22,8 @@ module _ {R : Type 0} (Sound : R → Type 0) (list all : R → List ℕ) (locati
 
   -- Bounds in front of `at` were tested, and the readers moved by it. Where it goes on, it goes on in front of `at`, or what
   -- is left fell.
-  pub record IsTested (bounds : List Inequality) (at : ℕ) (result : Option ℕ) (old new : List R) (before after : ℕ) : Type 0 where
-    pub kept : AreKept (λ places. IsTried (map list old) bounds (map location old) places at result) old new before after
+  pub record IsTested (bounds : List Inequality) (at : ℕ) (result : Option ℕ) (old new : List R)
+      (before after : ℕ) : Type 0 where
+    pub kept : AreKept (λ places. IsTried (map list old) bounds (map location old) places at result)
+        old new before after
     pub falls : IfSome result (λ next. (next < at) ⊎ (sum_by left new < sum_by left old))

@@ -11,7 +11,8 @@ use Rattle.alta_solver.specs.Solution.{list_at, MeetsBound, IsAtLeast}
 pub record IsRepaired (lists : List (List ℕ)) (bound : Inequality) (old new : List ℕ) (outcome : Outcome) : Type 0 where
   pub forward : IsAtLeast old new
   pub sized : length new ≡ length old
-  pub keeps : (x : List ℕ) → IsAtLeast old x → IsPlace (list_at lists bound.j) (slice_index x bound.j) → MeetsBound lists x bound
+  pub keeps : (x : List ℕ) → IsAtLeast old x → IsPlace (list_at lists bound.j) (slice_index x bound.j)
+      → MeetsBound lists x bound
       → IsAtLeast new x
   pub others : (k : ℕ) → k ≢ bound.j → slice_index new k ≡ slice_index old k
   pub moved : outcome ≡ Moved → bound.i ≢ bound.j → MeetsBound lists new bound

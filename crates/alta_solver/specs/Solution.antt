@@ -49,7 +49,8 @@ pub record IsLeast (lists : List (List ℕ)) (bounds : List Inequality) (start x
 
 -- Of a bound's right side that is to be at least `need`: the place of j went to the least one that does;
 -- or, at `false`, no place of the list does. No place went back, and the others stay.
-pub record IsRaised (list : List ℕ) (form : Form) (need : ℕ) (old : List ℕ) (j : ℕ) (new : List ℕ) (found : Bool) : Type 0 where
+pub record IsRaised (list : List ℕ) (form : Form) (need : ℕ) (old : List ℕ) (j : ℕ) (new : List ℕ)
+    (found : Bool) : Type 0 where
   pub forward : IsAtLeast old new
   pub sized : length new ≡ length old
   pub least : IsTrue found → (x : List ℕ) → IsAtLeast old x → IsPlace list (slice_index x j)

@@ -32,7 +32,8 @@ enum Outcome {
 fn low_at<R: BackReader>(readers: &[R], i: usize, form: Form) -> Loc
     requires sound { All R.sound readers.now }
     requires within { i < length readers.now }
-    ensures { IsLocation (low_side form (list_at (map R.list readers.now) i) (slice_index (map R.location readers.now) i)) result }
+    ensures { IsLocation (low_side form (list_at (map R.list readers.now) i)
+        (slice_index (map R.location readers.now) i)) result }
 {
     match form {
         Form::LocLoc | Form::LocPrev => place_at(readers, i),
@@ -45,7 +46,8 @@ fn low_at<R: BackReader>(readers: &[R], i: usize, form: Form) -> Loc
 fn high_at<R: BackReader>(readers: &[R], j: usize, form: Form) -> Loc
     requires sound { All R.sound readers.now }
     requires within { j < length readers.now }
-    ensures { IsLocation (high_side form (list_at (map R.list readers.now) j) (slice_index (map R.location readers.now) j)) result }
+    ensures { IsLocation (high_side form (list_at (map R.list readers.now) j)
+        (slice_index (map R.location readers.now) j)) result }
 {
     match form {
         Form::LocLoc | Form::PrevLoc => place_at(readers, j),
@@ -59,7 +61,9 @@ fn reach<R: BackReader, L: Ledger>(readers: &mut [R], j: usize, to: Loc, steps: 
     requires within { j < length readers.old }
     requires short { pred_of (list_at (map R.list readers.old) j) (slice_index (map R.location readers.old) j) < to }
     requires top { to ≤ TOP }
-    ensures { AreKept R.sound R.list R.all R.location R.left (λ places. places ≡ slice_set (map R.location readers.old) j (first_from (list_at (map R.list readers.old) j) to)) readers.old readers.new steps.old steps.new }
+    ensures { AreKept R.sound R.list R.all R.location R.left (λ places. places
+        ≡ slice_set (map R.location readers.old) j (first_from (list_at (map R.list readers.old) j) to))
+        readers.old readers.new steps.old steps.new }
 {
     if place_at(readers, j) < to {
         seek_at(readers, j, to, steps);
@@ -78,7 +82,9 @@ fn raise_past<R: BackReader, L: Ledger>(
     requires within { j < length readers.old }
     requires short { pred_of (list_at (map R.list readers.old) j) (slice_index (map R.location readers.old) j) < to }
     requires top { to ≤ TOP }
-    ensures kept { AreKept R.sound R.list R.all R.location R.left (λ places. IsRaisedPast (list_at (map R.list readers.old) j) to (map R.location readers.old) j places result) readers.old readers.new steps.old steps.new }
+    ensures kept { AreKept R.sound R.list R.all R.location R.left
+        (λ places. IsRaisedPast (list_at (map R.list readers.old) j) to (map R.location readers.old) j places result)
+        readers.old readers.new steps.old steps.new }
     ensures falls { IsTrue result → sum_by R.left readers.new < sum_by R.left readers.old }
 {
     reach(readers, j, to, steps);
@@ -101,8 +107,11 @@ fn raise_side<R: BackReader, L: Ledger>(
 ) -> bool
     requires sound { All R.sound readers.old }
     requires within { j < length readers.old }
-    requires short { high_side form (list_at (map R.list readers.old) j) (slice_index (map R.location readers.old) j) < need }
-    ensures kept { AreKept R.sound R.list R.all R.location R.left (λ places. IsRaised (list_at (map R.list readers.old) j) form need (map R.location readers.old) j places result) readers.old readers.new steps.old steps.new }
+    requires short { high_side form (list_at (map R.list readers.old) j)
+        (slice_index (map R.location readers.old) j) < need }
+    ensures kept { AreKept R.sound R.list R.all R.location R.left
+        (λ places. IsRaised (list_at (map R.list readers.old) j) form need
+        (map R.location readers.old) j places result) readers.old readers.new steps.old steps.new }
     ensures falls { IsTrue result → sum_by R.left readers.new < sum_by R.left readers.old }
 {
     if need > TOP {
@@ -129,8 +138,12 @@ fn repair<R: BackReader, L: Ledger>(
     steps: &mut Steps<L>,
 ) -> Outcome
     requires sound { All R.sound readers.old }
-    requires between { IsBetween (length readers.old) (record { form = form; i = i; j = j; plus = plus; minus = minus }) }
-    ensures kept { AreKept R.sound R.list R.all R.location R.left (λ places. IsRepaired (map R.list readers.old) (record { form = form; i = i; j = j; plus = plus; minus = minus }) (map R.location readers.old) places result) readers.old readers.new steps.old steps.new }
+    requires between { IsBetween (length readers.old)
+        (record { form = form; i = i; j = j; plus = plus; minus = minus }) }
+    ensures kept { AreKept R.sound R.list R.all R.location R.left
+        (λ places. IsRepaired (map R.list readers.old)
+        (record { form = form; i = i; j = j; plus = plus; minus = minus })
+        (map R.location readers.old) places result) readers.old readers.new steps.old steps.new }
     ensures falls { result ≡ Outcome.Moved → sum_by R.left readers.new < sum_by R.left readers.old }
 {
     let low = low_at(readers, i, form) + minus;
@@ -174,10 +187,12 @@ fn try_at<R: BackReader, L: Ledger>(
 ) -> Option<usize>
     requires ready { AreReady R.sound bounds.now readers.old }
     requires within { at < length bounds.now }
-    requires bound { (d : Inequality) → slice_index_or bounds.now at d ≡ record { form = form; i = i; j = j; plus = plus; minus = minus } }
+    requires bound { (d : Inequality) → slice_index_or bounds.now at d
+        ≡ record { form = form; i = i; j = j; plus = plus; minus = minus } }
     requires plus_within { plus ≤ 1000000 }
     requires minus_within { minus ≤ 1000000 }
-    ensures { IsTested R.sound R.list R.all R.location R.left bounds.now (at + 1) result readers.old readers.new steps.old steps.new }
+    ensures { IsTested R.sound R.list R.all R.location R.left bounds.now
+        (at + 1) result readers.old readers.new steps.old steps.new }
 {
     match repair(readers, form, i, j, plus, minus, steps) {
         Outcome::Settled => Some(at),
@@ -203,7 +218,8 @@ fn lead<R: BackReader, L: Ledger>(
     requires there { slice_index (map R.location readers.old) (m + 1) ≡ to }
     requires short { slice_index (map R.location readers.old) 0 < to }
     requires top { to ≤ TOP }
-    ensures { IsTested R.sound R.list R.all R.location R.left bounds.now (2 * m + 2) (Some result) readers.old readers.new steps.old steps.new }
+    ensures { IsTested R.sound R.list R.all R.location R.left bounds.now (2 * m + 2)
+        (Some result) readers.old readers.new steps.old steps.new }
 {
     seek_at(readers, 0, to, steps);
     if behind_first == 2 * m + 2 {
@@ -225,10 +241,12 @@ fn follow<R: BackReader, L: Ledger>(
 ) -> usize
     requires ready { AreReady R.sound bounds.now readers.old }
     requires pair { IsPair bounds.now m }
-    requires there { pred_of (list_at (map R.list readers.old) 0) (slice_index (map R.location readers.old) 0) + 1 ≡ to }
+    requires there { pred_of (list_at (map R.list readers.old) 0)
+        (slice_index (map R.location readers.old) 0) + 1 ≡ to }
     requires short { slice_index (map R.location readers.old) (m + 1) < to }
     requires top { to ≤ TOP }
-    ensures { IsTested R.sound R.list R.all R.location R.left bounds.now (2 * m + 2) (Some result) readers.old readers.new steps.old steps.new }
+    ensures { IsTested R.sound R.list R.all R.location R.left bounds.now (2 * m + 2)
+        (Some result) readers.old readers.new steps.old steps.new }
 {
     seek_at(readers, m + 1, to, steps);
     let next = behind_bounded(bounds, 2 * m + 2, m + 1);
@@ -251,7 +269,8 @@ fn try_pair<R: BackReader, L: Ledger>(
     requires ready { AreReady R.sound bounds.now readers.old }
     requires behind { IsBehindBounds 0 bounds.now behind_first }
     requires pair { IsPair bounds.now m }
-    ensures { IsTested R.sound R.list R.all R.location R.left bounds.now (2 * m + 2) (Some result) readers.old readers.new steps.old steps.new }
+    ensures { IsTested R.sound R.list R.all R.location R.left bounds.now (2 * m + 2)
+        (Some result) readers.old readers.new steps.old steps.new }
 {
     let at = place_at(readers, m + 1);
     if place_at(readers, 0) < at {
@@ -278,7 +297,8 @@ fn try_before<R: BackReader, L: Ledger>(
     requires behind { IsBehindBounds 0 bounds.now behind_first }
     requires some_left { 0 < at }
     requires within { at ≤ length bounds.now }
-    ensures { IsTested R.sound R.list R.all R.location R.left bounds.now at result readers.old readers.new steps.old steps.new }
+    ensures { IsTested R.sound R.list R.all R.location R.left bounds.now at result readers.old readers.new
+        steps.old steps.new }
 {
     if at <= 2 * pairs && at % 2 == 0 {
         return Some(try_pair(readers, bounds, behind_first, at / 2 - 1, steps));
@@ -313,9 +333,12 @@ pub(crate) fn settle<R: BackReader, L: Ledger>(
     requires ready { AreReady R.sound bounds.now readers.old }
     requires paired { IsPaired pairs bounds.now }
     requires behind { IsBehindBounds 0 bounds.now behind_first }
-    ensures kept { AreKept R.sound R.list R.all R.location R.left (λ places. IsAtLeast (map R.location readers.old) places) readers.old readers.new steps.old steps.new }
-    ensures settled { IsTrue result → IsSettling (map R.list readers.old) bounds.now (map R.location readers.old) (map R.location readers.new) 0 }
-    ensures none { result ≡ false → (x : List ℕ) → IsSolution (map R.list readers.old) bounds.now x → IsAtLeast (map R.location readers.old) x → ⊥ }
+    ensures kept { AreKept R.sound R.list R.all R.location R.left
+        (λ places. IsAtLeast (map R.location readers.old) places) readers.old readers.new steps.old steps.new }
+    ensures settled { IsTrue result → IsSettling (map R.list readers.old) bounds.now (map R.location readers.old)
+        (map R.location readers.new) 0 }
+    ensures none { result ≡ false → (x : List ℕ) → IsSolution (map R.list readers.old) bounds.now x
+        → IsAtLeast (map R.location readers.old) x → ⊥ }
 {
     let mut at = bounds.len();
     'settle: while at > 0 {

@@ -85,7 +85,9 @@ impl<R: BackReader> Model for Solver<R> {
 
     ghost view = { λ s. record { readers = s.readers.items; bounds = s.bounds.items } };
 
-    ghost invariant = { λ s. All R.sound s.readers.items × (0 < length s.readers.items) × IsNamed (length s.readers.items) s.bounds.items × IsPaired s.pairs s.bounds.items × IsBehindBounds 0 s.bounds.items s.behind_first };
+    ghost invariant = { λ s. All R.sound s.readers.items × (0 < length s.readers.items)
+        × IsNamed (length s.readers.items) s.bounds.items × IsPaired s.pairs s.bounds.items
+        × IsBehindBounds 0 s.bounds.items s.behind_first };
 }
 
 impl<R: BackReader> Solver<R> {
@@ -143,7 +145,8 @@ impl<R: BackReader> Solver<R> {
         ensures system { self.new.bounds ≡ self.old.bounds }
         ensures lists { map R.list self.new.readers ≡ map R.list self.old.readers }
         ensures alls { map R.all self.new.readers ≡ map R.all self.old.readers }
-        ensures places { map R.location self.new.readers ≡ slice_set (map R.location self.old.readers) i (first_from (list_at (map R.list self.old.readers) i) to) }
+        ensures places { map R.location self.new.readers
+            ≡ slice_set (map R.location self.old.readers) i (first_from (list_at (map R.list self.old.readers) i) to) }
         ensures falls { sum_by R.left self.new.readers < sum_by R.left self.old.readers }
         ensures steps { steps.new + sum_by R.left self.new.readers ≤ steps.old + sum_by R.left self.old.readers }
     {
@@ -161,8 +164,10 @@ impl<R: BackReader> Solver<R> {
         ensures lists { map R.list self.new.readers ≡ map R.list self.old.readers }
         ensures alls { map R.all self.new.readers ≡ map R.all self.old.readers }
         ensures above { IsAtLeast (map R.location self.old.readers) (map R.location self.new.readers) }
-        ensures least { IsTrue result → IsLeast (map R.list self.old.readers) self.old.bounds (map R.location self.old.readers) (map R.location self.new.readers) }
-        ensures none { result ≡ false → (x : List ℕ) → IsSolution (map R.list self.old.readers) self.old.bounds x → IsAtLeast (map R.location self.old.readers) x → ⊥ }
+        ensures least { IsTrue result → IsLeast (map R.list self.old.readers) self.old.bounds
+            (map R.location self.old.readers) (map R.location self.new.readers) }
+        ensures none { result ≡ false → (x : List ℕ) → IsSolution (map R.list self.old.readers) self.old.bounds x
+            → IsAtLeast (map R.location self.old.readers) x → ⊥ }
         ensures keeps { sum_by R.left self.new.readers ≤ sum_by R.left self.old.readers }
         ensures steps { steps.new + sum_by R.left self.new.readers ≤ steps.old + sum_by R.left self.old.readers }
     {

@@ -64,7 +64,8 @@ MayGoOn levels gone None = Unit {0}
 MayGoOn levels gone (Some merging) = IsJoining levels gone merging
 
 -- It joins the contents that these levels have on an image.
-abbrev pub GoesOnOver : (image : List ℕ) (levels : List Tables) (gone : List ℕ) (job : Option Merging) → MayGoOn levels gone job → Type 0
+abbrev pub GoesOnOver : (image : List ℕ) (levels : List Tables) (gone : List ℕ) (job : Option Merging)
+    → MayGoOn levels gone job → Type 0
 GoesOnOver image levels gone None joining = Unit {0}
 GoesOnOver image levels gone (Some merging) joining = AreJoinedOn image joining
 
@@ -75,7 +76,8 @@ pub record IsIntact (store : Store) : Type 0 where
   pub knows : Knows store state
   pub entries : List Entry
   pub follows : Follows store.catalog store.root entries
-  pub below : All (λ (row : DocRow). (row.number < store.root.next_number) × (end_of row < store.root.next_location)) (table_rows (levels_of store))
+  pub below : All (λ (row : DocRow). (row.number < store.root.next_number) × (end_of row < store.root.next_location))
+      (table_rows (levels_of store))
   pub documents : AreDocuments (table_rows (levels_of store))
   pub extents : map extent_of (levels_of store) ≡ store.root.levels.items
   pub joining : MayGoOn (levels_of store) (gone_of store.catalog) store.job

@@ -63,11 +63,13 @@ has_live store = nat_le 1 (length (live_rows (gone_of store.catalog) (memory_of 
 
 -- those of a flush: the two oldest, where there are 16 and one comes behind them
 abbrev pub flush_joins : Store → List Tables
-flush_joins store = cond (length (levels_of store) == 16 && has_live store) (unless_read store.job (take 2 (levels_of store))) []
+flush_joins store = cond (length (levels_of store) == 16 && has_live store)
+    (unless_read store.job (take 2 (levels_of store))) []
 
 -- There is nothing to merge: at most one level, no deletion list, and no entry in the journal.
 abbrev pub is_one : Store → Bool
-is_one store = nat_le (length (levels_of store)) 1 && length store.listed.items == 0 && store.tail.place == half_start store.tail.slot
+is_one store = nat_le (length (levels_of store)) 1 && length store.listed.items == 0
+    && store.tail.place == half_start store.tail.slot
 
 -- those of a merge: all, where there is something to merge
 abbrev pub merge_joins : Store → List Tables
@@ -98,7 +100,8 @@ HaveLists image o there levels =
 
 -- The root is switched to levels of this kind, or one of those to write, or the list, has no place. What comes in place of levels is made
 -- of the lists that stand on the image.
-pub record IsRewrite (limit : ℕ) (image : List ℕ) (kind : View → NextLevels → Type 0) (o : Opened) (outcome : Result Opened Full)
+pub record IsRewrite (limit : ℕ) (image : List ℕ) (kind : View → NextLevels → Type 0) (o : Opened)
+    (outcome : Result Opened Full)
     : Type 0 where
   pub there : List Level
   pub have : HaveRows o there
@@ -132,7 +135,8 @@ abbrev pub is_many : View → Bool
 is_many view = length view.levels == 16 && nat_le 1 (length (newest_content view).documents)
 
 abbrev pub Flushes : Option Merging → View → NextLevels → Type 0
-Flushes going view levels = ((is_many view ≡ false) × AddsNewest view levels) ⊎ ((is_many view ≡ true) × JoinsOldest going view levels)
+Flushes going view levels = ((is_many view ≡ false) × AddsNewest view levels)
+    ⊎ ((is_many view ≡ true) × JoinsOldest going view levels)
 
 -- the terms of levels, in collating order, each once
 abbrev pub terms_by : List Tables → List (List ℕ)
@@ -146,7 +150,8 @@ ends_join n None levels = nat_le 2 (length levels) && nat_le (length (terms_by (
 
 -- Behind a flush an image is opened as before, where the journal has no entry, or else with the newest documents in a level.
 abbrev pub BecomesFlushed : ℕ → List ℕ → Option Merging → Opened → Result Opened Full → Type 0
-BecomesFlushed limit image going o outcome = ((o.entries ≡ []) × (outcome ≡ Ok o)) ⊎ IsRewrite limit image (Flushes going) o outcome
+BecomesFlushed limit image going o outcome = ((o.entries ≡ []) × (outcome ≡ Ok o))
+    ⊎ IsRewrite limit image (Flushes going) o outcome
 
 -- Behind a merge it is opened as before, where there is nothing to merge, or else with one level at most.
 abbrev pub BecomesMerged : ℕ → List ℕ → Opened → Result Opened Full → Type 0
@@ -170,7 +175,8 @@ GetsRoom limit image going entry o outcome =
 -- with an entry more
 abbrev pub BecomesEntered : ℕ → List ℕ → Option Merging → Entry → Opened → Result Opened Full → Type 0
 BecomesEntered limit image going entry o outcome =
-    (roomy : Result Opened Full) × GetsRoom limit image going entry o roomy × (outcome ≡ (roomy >>= λ p. Ok (with_entry p entry)))
+    (roomy : Result Opened Full) × GetsRoom limit image going entry o roomy
+    × (outcome ≡ (roomy >>= λ p. Ok (with_entry p entry)))
 
 -- What a task makes of an image that is opened so, where this join goes on.
 abbrev pub Becomes : ℕ → List ℕ → Option Merging → Task → Opened → Result Opened Full → Type 0
@@ -187,7 +193,8 @@ NoRefusal fault = ⊥
 
 -- levels that a flush, a step or a merge puts in place of others, whichever join goes on
 abbrev pub IsWork : View → NextLevels → Type 0
-IsWork view levels = (going : Option Merging) × (Flushes going view levels ⊎ (JoinsOldest going view levels ⊎ JoinsAll view levels))
+IsWork view levels = (going : Option Merging)
+    × (Flushes going view levels ⊎ (JoinsOldest going view levels ⊎ JoinsAll view levels))
 
 -- The image is opened, and a switch of its root, by a flush, a step or a merge of what stands there, lacks a place: the gap is the greatest
 -- beside the extents of the root and those that are placed before in this switch, each at the first gap, and the need is above it.
@@ -204,24 +211,31 @@ pub record IsNarrow (limit : ℕ) (image : List ℕ) (need gap : ℕ) : Type 0 w
 
 -- why a call that changes the store was not done: an outside cause, a refusal, want of a place, or damage
 abbrev pub IsCause : (StoreFault → Type 0) → StoreFault → Type 0
-IsCause refuses e = IsOutside e ⊎ (refuses e ⊎ (((need : ℕ) × (gap : ℕ) × (e ≡ faults.Full need gap)) ⊎ ((place : ℕ) × (e ≡ faults.Damaged place))))
+IsCause refuses e = IsOutside e ⊎ (refuses e
+    ⊎ (((need : ℕ) × (gap : ℕ) × (e ≡ faults.Full need gap)) ⊎ ((place : ℕ) × (e ≡ faults.Damaged place))))
 
 -- Damage is answered exactly where one of these levels is damaged, with the first; that yields to an outside cause and to a refusal.
-pub record FindsFirstDamage {T : Type 0} (refuses : StoreFault → Type 0) (image : List ℕ) (levels : List Tables) (result : Result T StoreFault) : Type 0 where
+pub record FindsFirstDamage {T : Type 0} (refuses : StoreFault → Type 0) (image : List ℕ) (levels : List Tables)
+    (result : Result T StoreFault) : Type 0 where
   pub first : (place : ℕ) → result ≡ Err (faults.Damaged place) → IsFirstDamage image levels place
   pub broken : (place : ℕ) → result ≡ Err (faults.Damaged place) → IsBrokenAmong levels image place
-  pub damaged : (place : ℕ) → IsFirstDamage image levels place → IfOk result (λ x. ⊥) × IfErr result (λ e. (e ≡ faults.Damaged place) ⊎ (IsOutside e ⊎ refuses e))
+  pub damaged : (place : ℕ) → IsFirstDamage image levels place → IfOk result (λ x. ⊥)
+      × IfErr result (λ e. (e ≡ faults.Damaged place) ⊎ (IsOutside e ⊎ refuses e))
 
 -- ---- a call that changes the store
 
 -- The levels are those of before, and where the disk tells, they have the bytes that they had.
 pub record HasSameLevels (tells : Type 0) (before after : DiskState) (store later : Store) : Type 0 where
   pub tables : levels_of later ≡ levels_of store
-  pub bytes : tells → All (λ (level : Tables). bytes_at (extent_of level) after.content ≡ bytes_at (extent_of level) before.content) (levels_of store)
+  pub bytes : tells → All (λ (level : Tables). bytes_at (extent_of level) after.content
+      ≡ bytes_at (extent_of level) before.content) (levels_of store)
 
 -- By this work, which turns what is opened so, and makes this of a state. It refuses by these faults; it reads the lists of these levels,
 -- and at most so many bytes beside them.
-pub record Changes {T : Type 0} (tells : Type 0) (work : ℕ → Holding → Result Holding Full) (turns : ℕ → Opened → Result Opened Full → Type 0) (step : State → State) (refuses : StoreFault → Type 0) (bytes : ℕ) (joins : List Tables) (before after : DiskState) (store later : Store) (result : Result T StoreFault) : Type 0 where
+pub record Changes {T : Type 0} (tells : Type 0) (work : ℕ → Holding → Result Holding Full)
+    (turns : ℕ → Opened → Result Opened Full → Type 0) (step : State → State) (refuses : StoreFault → Type 0)
+    (bytes : ℕ) (joins : List Tables) (before after : DiskState) (store later : Store)
+    (result : Result T StoreFault) : Type 0 where
   -- once it is done, store and disk agree, the store may be used if it could be before, and it knows the state after
   pub agrees : OnOk result (Agrees tells after later)
   pub sound : OnOk result (is_sound later ≡ is_sound store)
@@ -229,22 +243,29 @@ pub record Changes {T : Type 0} (tells : Type 0) (work : ℕ → Holding → Res
   -- where the slot that counts is the one of before, the levels have stayed, also on a disk that stands for no state
   pub levels : OnOk result (later.slot ≡ store.slot → HasSameLevels tells before after store later)
   -- what is held then is what the work makes of it; and a place that is wanting is one that the work wants
-  pub works : (held : Holding) → tells → Has store held before.content → OnOk result ((then : Holding) × (work before.limit held ≡ Ok then) × Has later then after.content)
-  pub full : (held : Holding) (need gap : ℕ) → tells → Has store held before.content → result ≡ Err (faults.Full need gap) → work before.limit held ≡ Err (record { need = need; gap = gap })
+  pub works : (held : Holding) → tells → Has store held before.content
+      → OnOk result ((then : Holding) × (work before.limit held ≡ Ok then) × Has later then after.content)
+  pub full : (held : Holding) (need gap : ℕ) → tells → Has store held before.content
+      → result ≡ Err (faults.Full need gap) → work before.limit held ≡ Err (record { need = need; gap = gap })
   -- at each moment an image stands for the state of before or the one after, and for the latter once it is done
   pub images : (s : State) → (tells → StandsFor s before.content) → LeavesOnly (StandsForEither s (step s)) before after
   pub stands : (s : State) → tells → StandsFor s before.content → OnOk result (StandsFor (step s) after.content)
   -- on a disk that stands for no state too: of each state of which the content of before may speak, at each moment an image may speak of
   -- it or of the one after, and of the latter once it is done
-  pub between : (s : State) → (tells → MaySpeakOf s before.content) → LeavesOnly (MaySpeakOfEither s (step s)) before after
+  pub between : (s : State) → (tells → MaySpeakOf s before.content)
+      → LeavesOnly (MaySpeakOfEither s (step s)) before after
   pub speaks : (s : State) → tells → MaySpeakOf s before.content → OnOk result (MaySpeakOf (step s) after.content)
   -- what is opened then, and which place is wanting, there too
-  pub becomes : (o : Opened) → tells → IsOpened o before.content → OnOk result ((p : Opened) × turns before.limit o (Ok p) × IsOpened p after.content × Keeps later p)
-  pub lacks : (o : Opened) (need gap : ℕ) → tells → IsOpened o before.content → result ≡ Err (faults.Full need gap) → turns before.limit o (Err (record { need = need; gap = gap }))
+  pub becomes : (o : Opened) → tells → IsOpened o before.content
+      → OnOk result ((p : Opened) × turns before.limit o (Ok p) × IsOpened p after.content × Keeps later p)
+  pub lacks : (o : Opened) (need gap : ℕ) → tells → IsOpened o before.content → result ≡ Err (faults.Full need gap)
+      → turns before.limit o (Err (record { need = need; gap = gap }))
   -- each error comes from its cause
-  pub narrow : (need gap : ℕ) → tells → result ≡ Err (faults.Full need gap) → IsNarrow before.limit after.content need gap
+  pub narrow : (need gap : ℕ) → tells → result ≡ Err (faults.Full need gap)
+      → IsNarrow before.limit after.content need gap
   pub damage : tells → FindsFirstDamage refuses before.content joins result
-  pub undamaged : (s : State) → tells → StandsFor s before.content → (place : ℕ) → result ≡ Err (faults.Damaged place) → ⊥
+  pub undamaged : (s : State) → tells → StandsFor s before.content → (place : ℕ)
+      → result ≡ Err (faults.Damaged place) → ⊥
   pub unread : tells → joins ≡ [] → (place : ℕ) → result ≡ Err (faults.Damaged place) → ⊥
   pub still : tells → (place : ℕ) → result ≡ Err (faults.Damaged place) → after.content ≡ before.content
   pub unwritten : tells → (need gap : ℕ) → result ≡ Err (faults.Full need gap) → after.content ≡ before.content
@@ -253,21 +274,26 @@ pub record Changes {T : Type 0} (tells : Type 0) (work : ℕ → Holding → Res
   pub costs : Costs (bytes + sum_by data_size joins) before after
 
 -- a call that does a task
-abbrev pub Obeys : {T : Type 0} → Type 0 → Task → (State → State) → (StoreFault → Type 0) → DiskState → DiskState → Store → Store → Result T StoreFault → Type 0
+abbrev pub Obeys : {T : Type 0} → Type 0 → Task → (State → State) → (StoreFault → Type 0) → DiskState → DiskState
+    → Store → Store → Result T StoreFault → Type 0
 Obeys tells task step refuses before after store later result =
-    Changes tells (λ limit held. worked limit held task) (λ limit o outcome. Becomes limit before.content store.job task o outcome)
+    Changes tells (λ limit held. worked limit held task)
+    (λ limit o outcome. Becomes limit before.content store.job task o outcome)
     step refuses 1 (joined_by store task) before after store later result
 
 -- a call that makes the live newest documents a level and switches the root, also with an empty journal
 abbrev pub Writes : {T : Type 0} → Type 0 → DiskState → DiskState → Store → Store → Result T StoreFault → Type 0
 Writes tells before after store later result =
-    Changes tells written (λ limit o outcome. IsRewrite limit before.content (Flushes store.job) o outcome) (λ s. s) NoRefusal
+    Changes tells written (λ limit o outcome. IsRewrite limit before.content
+    (Flushes store.job) o outcome) (λ s. s) NoRefusal
     1 (flush_joins store) before after store later result
 
 -- a call that makes room for an entry, by a switch of the root where there is none
-abbrev pub MakesRoom : {T : Type 0} → Type 0 → Entry → DiskState → DiskState → Store → Store → Result T StoreFault → Type 0
+abbrev pub MakesRoom : {T : Type 0} → Type 0 → Entry → DiskState → DiskState → Store → Store
+    → Result T StoreFault → Type 0
 MakesRoom tells entry before after store later result =
-    Changes tells (λ limit held. cond (lacks_room held.view.version held.view.entries entry) (written limit held) (Ok held))
+    Changes tells (λ limit held. cond (lacks_room held.view.version held.view.entries entry)
+    (written limit held) (Ok held))
     (λ limit o outcome. GetsRoom limit before.content store.job entry o outcome) (λ s. s) NoRefusal
     1 (joined_by store (enters entry)) before after store later result
 
@@ -280,9 +306,11 @@ abbrev pub IsStepFrom : Entry → (State → State) → Store → Type 0
 IsStepFrom entry step store = (later : Store) (s : State) → Knows store s → Knows later s → IsStepOf entry step later
 
 -- a call that appends an entry
-abbrev pub Enters : {T : Type 0} → Type 0 → Entry → (State → State) → DiskState → DiskState → Store → Store → Result T StoreFault → Type 0
+abbrev pub Enters : {T : Type 0} → Type 0 → Entry → (State → State) → DiskState → DiskState → Store → Store
+    → Result T StoreFault → Type 0
 Enters tells entry step before after store later result =
-    Changes tells (λ limit held. Ok (entered held entry)) (λ limit o outcome. outcome ≡ Ok (with_entry o entry)) step NoRefusal 0 [] before after store later result
+    Changes tells (λ limit held. Ok (entered held entry)) (λ limit o outcome. outcome
+    ≡ Ok (with_entry o entry)) step NoRefusal 0 [] before after store later result
 
 -- the name is taken, or no number is left
 abbrev pub RefusesAdd : StoreFault → Type 0

@@ -18,7 +18,8 @@ pub record IsClear (n : ℕ) (image : List ℕ) : Type 0 where
 
 -- A call that clears a disk: once it is done, its first n bytes are zero, and those behind the head are as they were. It reads nothing, and
 -- an error has a cause.
-pub record Clears {T E : Type 0} (tells : Type 0) (n : ℕ) (before after : DiskState) (result : Result T E) : Type 0 where
+pub record Clears {T E : Type 0} (tells : Type 0) (n : ℕ) (before after : DiskState)
+    (result : Result T E) : Type 0 where
   pub clear : tells → OnOk result (IsClear n after.content)
   pub behind : tells → OnOk result (drop HEAD_BYTES after.content ≡ drop HEAD_BYTES before.content)
   pub cause : HasCause before.faults after.faults result

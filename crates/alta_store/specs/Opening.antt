@@ -30,5 +30,6 @@ pub record Opens {T : Type 0} (tells : Type 0) (before after : DiskState) (resul
   pub content : tells → after.content ≡ before.content
   pub images : Passes Same before after
   pub faults : before.faults ≤ after.faults
-  pub read : tells → (slot : Slot) → (root : Root) → Counts slot root before.content → after.taken ≤ before.taken + (592 + named_bytes root before.content + HALF_BYTES)
+  pub read : tells → (slot : Slot) → (root : Root) → Counts slot root before.content
+      → after.taken ≤ before.taken + (592 + named_bytes root before.content + HALF_BYTES)
   pub same_limit : after.limit ≡ before.limit

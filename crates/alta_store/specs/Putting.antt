@@ -34,9 +34,11 @@ use Rattle.alta_table.specs.Tables.{Tables}
 -- ---- a call that reads levels
 
 -- It writes nothing, and reads no more than the lists of these levels. Damage is that of these levels.
-pub record ReadsLevels {T : Type 0} (tells : Type 0) (levels : List Tables) (before after : DiskState) (result : Result T StoreFault) : Type 0 where
+pub record ReadsLevels {T : Type 0} (tells : Type 0) (levels : List Tables) (before after : DiskState)
+    (result : Result T StoreFault) : Type 0 where
   pub damage : tells → FindsFirstDamage NoRefusal before.content levels result
-  pub whole : (contents : List Content) (place : ℕ) → tells → AreSegmentsOn before.content levels contents → result ≡ Err (faults.Damaged place) → ⊥
+  pub whole : (contents : List Content) (place : ℕ) → tells → AreSegmentsOn before.content levels contents
+      → result ≡ Err (faults.Damaged place) → ⊥
   pub unread : tells → levels ≡ [] → (place : ℕ) → result ≡ Err (faults.Damaged place) → ⊥
   pub only : IfErr result (λ e. IsOutside e ⊎ ((place : ℕ) × (e ≡ faults.Damaged place)))
   pub cause : result ≡ Err faults.Disk → Rose before.faults after.faults
@@ -59,7 +61,8 @@ rows_of store = table_rows (levels_of store) ++ (memory_of store.catalog).conten
 
 -- A root may be switched to these levels, for whatever ends, number and location agree with a view.
 abbrev pub IsGivenBy : View → NextLevels → Type 0
-IsGivenBy view levels = (ends : Ends) → (next location : ℕ) → AgreesWith view levels ends next location → IsGiven view levels ends next location
+IsGivenBy view levels = (ends : Ends) → (next location : ℕ) → AgreesWith view levels ends next location
+    → IsGiven view levels ends next location
 
 -- These levels may be put in place of those of the store as it was before its newest documents were taken out: their rows are some of all
 -- rows, in order, the documents of the others are gone, and there are at most 16. A join goes on only where its levels stay.
@@ -68,15 +71,19 @@ pub record MayPut (tells : Type 0) (disk : DiskState) (before now : Store) (leve
   pub drained : IsDrained before now
   pub parts : IsPart levels.oldest × IsPart levels.newest
   pub index : levels.stay_from ≤ length (levels_of before)
-  pub few : length (coming levels.oldest) + (length (levels_of before) - levels.stay_from) + length (coming levels.newest) ≤ 16
+  pub few : length (coming levels.oldest) + (length (levels_of before) - levels.stay_from)
+      + length (coming levels.newest) ≤ 16
   pub kept : DocRow → Bool
-  pub rows : rows_between levels.oldest.documents levels.stay_from (levels_of before) levels.newest.documents ≡ filter kept (rows_of before)
+  pub rows : rows_between levels.oldest.documents levels.stay_from (levels_of before) levels.newest.documents
+      ≡ filter kept (rows_of before)
   pub gone : All (λ (row : DocRow). kept row ≡ false → ends_among (gone_of before.catalog) row ≡ true) (rows_of before)
-  pub given : (o : Opened) → tells → IsOpened o disk.content → (there : List Level) × HaveRows o there × IsGivenBy (view_of o there) levels
+  pub given : (o : Opened) → tells → IsOpened o disk.content → (there : List Level) × HaveRows o there
+      × IsGivenBy (view_of o there) levels
   pub goes_on : (now.job ≡ None) ⊎ ((levels.stay_from ≡ 0) × (levels.oldest.documents ≡ []) × (now.job ≡ before.job))
 
 -- What is opened becomes what these levels make of it, or a place is wanting.
-pub record IsPut (limit : ℕ) (levels : NextLevels) (view : View) (o : Opened) (outcome : Result Opened Full) : Type 0 where
+pub record IsPut (limit : ℕ) (levels : NextLevels) (view : View) (o : Opened)
+    (outcome : Result Opened Full) : Type 0 where
   pub ends : Ends
   pub next : ℕ
   pub location : ℕ
@@ -84,22 +91,31 @@ pub record IsPut (limit : ℕ) (levels : NextLevels) (view : View) (o : Opened) 
   pub comes : ComesTo limit o levels ends next location outcome
 
 -- The levels were put in place of those of before, and the journal is empty.
-pub record Puts {T : Type 0} (tells : Type 0) (levels : NextLevels) (before after : DiskState) (store later : Store) (result : Result T StoreFault) : Type 0 where
+pub record Puts {T : Type 0} (tells : Type 0) (levels : NextLevels) (before after : DiskState) (store later : Store)
+    (result : Result T StoreFault) : Type 0 where
   pub agrees : OnOk result (Agrees tells after later)
   pub sound : OnOk result (is_sound later ≡ is_sound store)
   pub knows : (s : State) → Knows store s → OnOk result (Knows later s)
   pub slot : OnOk result (later.slot ≡ other store.slot)
   pub works : (held : Holding) (job : Option Job) → tells → IsHeld held before.content → IsGivenBy held.view levels
-      → OnOk result ((then : Holding) × (switched before.limit held (levels_to_come levels held.view) job ≡ Ok then) × IsHeld then after.content)
-  pub full : (held : Holding) (job : Option Job) (need gap : ℕ) → tells → IsHeld held before.content → IsGivenBy held.view levels
-      → result ≡ Err (faults.Full need gap) → switched before.limit held (levels_to_come levels held.view) job ≡ Err (record { need = need; gap = gap })
+      → OnOk result ((then : Holding) × (switched before.limit held (levels_to_come levels held.view) job ≡ Ok then)
+      × IsHeld then after.content)
+  pub full : (held : Holding) (job : Option Job) (need gap : ℕ) → tells → IsHeld held before.content
+      → IsGivenBy held.view levels
+      → result ≡ Err (faults.Full need gap) → switched before.limit held (levels_to_come levels held.view) job
+      ≡ Err (record { need = need; gap = gap })
   pub passes : Passes (λ old new. ⊤) before after
-  pub images : (held : Holding) → (tells → IsHeld held before.content × IsGivenBy held.view levels) → LeavesOnly (StandsFor (state_of held.view)) before after
+  pub images : (held : Holding) → (tells → IsHeld held before.content × IsGivenBy held.view levels)
+      → LeavesOnly (StandsFor (state_of held.view)) before after
   pub between : (s : State) → (tells → MaySpeakOf s before.content) → LeavesOnly (MaySpeakOf s) before after
-  pub becomes : (o : Opened) (there : List Level) → tells → IsOpened o before.content → HaveRows o there → IsGivenBy (view_of o there) levels
-      → OnOk result ((p : Opened) × IsPut before.limit levels (view_of o there) o (Ok p) × IsOpened p after.content × Keeps later p)
-  pub lacks : (o : Opened) (there : List Level) (need gap : ℕ) → tells → IsOpened o before.content → HaveRows o there → IsGivenBy (view_of o there) levels
-      → result ≡ Err (faults.Full need gap) → IsPut before.limit levels (view_of o there) o (Err (record { need = need; gap = gap }))
+  pub becomes : (o : Opened) (there : List Level) → tells → IsOpened o before.content → HaveRows o there
+      → IsGivenBy (view_of o there) levels
+      → OnOk result ((p : Opened) × IsPut before.limit levels (view_of o there) o (Ok p)
+      × IsOpened p after.content × Keeps later p)
+  pub lacks : (o : Opened) (there : List Level) (need gap : ℕ) → tells → IsOpened o before.content → HaveRows o there
+      → IsGivenBy (view_of o there) levels
+      → result ≡ Err (faults.Full need gap) → IsPut before.limit levels (view_of o there) o
+      (Err (record { need = need; gap = gap }))
   pub unwritten : (need gap : ℕ) → result ≡ Err (faults.Full need gap) → after.content ≡ before.content
   pub only : IfErr result (λ e. IsOutside e ⊎ ((need : ℕ) × (gap : ℕ) × (e ≡ faults.Full need gap)))
   pub cause : result ≡ Err faults.Disk → Rose before.faults after.faults

@@ -19,7 +19,8 @@ use Rattle.alta_table.specs.Tables.{Tables}
 
 -- The tables of the store's levels, its newest documents, the ends of all documents that are gone, and the rows of levels and newest
 -- documents, which rise.
-pub record IsSearched (store : Store) (levels : List Tables) (newest : LevelView) (gone : List ℕ) (rows : List DocRow) : Type 0 where
+pub record IsSearched (store : Store) (levels : List Tables) (newest : LevelView) (gone : List ℕ)
+    (rows : List DocRow) : Type 0 where
   pub levels_are : levels ≡ levels_of store
   pub newest_is : newest ≡ memory_in store.catalog
   pub gone_are : gone ≡ gone_in store.catalog
@@ -30,7 +31,8 @@ pub record IsSearched (store : Store) (levels : List Tables) (newest : LevelView
 
 -- The levels on the image are the segments of contents, and the documents of the state are theirs that are not gone, and behind them
 -- the newest that are not.
-pub record FindsDocuments (levels : List Tables) (newest : LevelView) (gone : List ℕ) (s : State) (image : List ℕ) : Type 0 where
+pub record FindsDocuments (levels : List Tables) (newest : LevelView) (gone : List ℕ) (s : State)
+    (image : List ℕ) : Type 0 where
   pub contents : List Level
   pub tables : levels ≡ map tables_by contents
   pub segments : All (λ (l : Level). IsSegment (bytes_at l.extent image) l.content) contents

@@ -42,11 +42,16 @@ impl Store {
         requires agrees { Agrees D.tells (D.state disk.old) self.old }
         requires limit { HEAD_BYTES ≤ (D.state disk.old).limit }
 
-        ensures obeys { Obeys D.tells (enters (Add name.now title.now body.now)) (with_added name.now title.now body.now) RefusesAdd (D.state disk.old) (D.state disk.new) self.old self.new result }
-        ensures number { (s : State) → Knows self.old s → IfOk result (λ n. (n ≡ s.next) × (has_name name.now s ≡ false) × (s.next < 4294967296)) }
+        ensures obeys { Obeys D.tells (enters (Add name.now title.now body.now))
+            (with_added name.now title.now body.now) RefusesAdd (D.state disk.old)
+            (D.state disk.new) self.old self.new result }
+        ensures number { (s : State) → Knows self.old s
+            → IfOk result (λ n. (n ≡ s.next) × (has_name name.now s ≡ false) × (s.next < 4294967296)) }
         ensures taken { (s : State) → Knows self.old s → (result ≡ Err Taken) ↔ (has_name name.now s ≡ true) }
-        ensures numbers { (s : State) → Knows self.old s → (result ≡ Err Numbers) ↔ ((has_name name.now s ≡ false) × (4294967296 ≤ s.next)) }
-        ensures refused { (result ≡ Err Taken) ⊎ (result ≡ Err Numbers) → (disk.new ≡ disk.old) × (self.new ≡ self.old) }
+        ensures numbers { (s : State) → Knows self.old s → (result ≡ Err Numbers)
+            ↔ ((has_name name.now s ≡ false) × (4294967296 ≤ s.next)) }
+        ensures refused { (result ≡ Err Taken) ⊎ (result ≡ Err Numbers)
+            → (disk.new ≡ disk.old) × (self.new ≡ self.old) }
         ensures unsound { IfErr result (λ e. RefusesAdd e ⊎ (is_sound self.new ≡ false)) }
     {
         if self.catalog.number_of(name).is_some() {
@@ -76,7 +81,9 @@ impl Store {
         requires number { (s : State) → Knows self.old s → s.next < 4294967296 }
         requires limit { HEAD_BYTES ≤ (D.state disk.old).limit }
 
-        ensures { Obeys D.tells (enters (Add name.now title.now body.now)) (with_added name.now title.now body.now) NoRefusal (D.state disk.old) (D.state disk.new) self.old self.new result }
+        ensures { Obeys D.tells (enters (Add name.now title.now body.now))
+            (with_added name.now title.now body.now) NoRefusal (D.state disk.old)
+            (D.state disk.new) self.old self.new result }
     {
         match entry_of_add(self.alloc, name, title, body) {
             Ok(entry) => self.enter(disk, &entry),
@@ -107,11 +114,16 @@ impl Store {
         requires limit { HEAD_BYTES ≤ (D.state disk.old).limit }
 
         ensures obeys { (s : State) → (number : ℕ) → Knows self.old s → number_of name.now s ≡ Some number
-            → Obeys D.tells (enters (Replace number name.now title.now body.now)) (with_replaced name.now title.now body.now) RefusesReplace (D.state disk.old) (D.state disk.new) self.old self.new result }
-        ensures numbers_of { (s : State) → Knows self.old s → IfOk result (λ both. (number_of name.now s ≡ Some both.0) × (both.1 ≡ s.next) × (s.next < 4294967296)) }
+            → Obeys D.tells (enters (Replace number name.now title.now body.now))
+            (with_replaced name.now title.now body.now) RefusesReplace (D.state disk.old)
+            (D.state disk.new) self.old self.new result }
+        ensures numbers_of { (s : State) → Knows self.old s
+            → IfOk result (λ both. (number_of name.now s ≡ Some both.0) × (both.1 ≡ s.next) × (s.next < 4294967296)) }
         ensures missing { (s : State) → Knows self.old s → (result ≡ Err Missing) ↔ (has_name name.now s ≡ false) }
-        ensures numbers { (s : State) → Knows self.old s → (result ≡ Err Numbers) ↔ ((has_name name.now s ≡ true) × (4294967296 ≤ s.next)) }
-        ensures refused { (result ≡ Err Missing) ⊎ (result ≡ Err Numbers) → (disk.new ≡ disk.old) × (self.new ≡ self.old) }
+        ensures numbers { (s : State) → Knows self.old s → (result ≡ Err Numbers)
+            ↔ ((has_name name.now s ≡ true) × (4294967296 ≤ s.next)) }
+        ensures refused { (result ≡ Err Missing) ⊎ (result ≡ Err Numbers)
+            → (disk.new ≡ disk.old) × (self.new ≡ self.old) }
         ensures unsound { IfErr result (λ e. RefusesReplace e ⊎ (is_sound self.new ≡ false)) }
     {
         let Some(old) = self.catalog.number_of(name) else {
@@ -142,7 +154,9 @@ impl Store {
         requires left { (s : State) → Knows self.old s → s.next < 4294967296 }
         requires limit { HEAD_BYTES ≤ (D.state disk.old).limit }
 
-        ensures { Obeys D.tells (enters (Replace number name.now title.now body.now)) (with_replaced name.now title.now body.now) NoRefusal (D.state disk.old) (D.state disk.new) self.old self.new result }
+        ensures { Obeys D.tells (enters (Replace number name.now title.now body.now))
+            (with_replaced name.now title.now body.now) NoRefusal (D.state disk.old)
+            (D.state disk.new) self.old self.new result }
     {
         match entry_of_replace(self.alloc, number, name, title, body) {
             Ok(entry) => self.enter(disk, &entry),
@@ -165,7 +179,8 @@ impl Store {
         requires limit { HEAD_BYTES ≤ (D.state disk.old).limit }
 
         ensures obeys { (s : State) → (number : ℕ) → Knows self.old s → number_of name.now s ≡ Some number
-            → Obeys D.tells (enters (Delete number)) (with_deleted name.now) NoRefusal (D.state disk.old) (D.state disk.new) self.old self.new result }
+            → Obeys D.tells (enters (Delete number)) (with_deleted name.now) NoRefusal (D.state disk.old)
+            (D.state disk.new) self.old self.new result }
         ensures number { (s : State) → Knows self.old s → IfOk result (λ n. number_of name.now s ≡ Some n) }
         ensures missing { (s : State) → Knows self.old s → (result ≡ Err Missing) ↔ (has_name name.now s ≡ false) }
         ensures refused { result ≡ Err Missing → (disk.new ≡ disk.old) × (self.new ≡ self.old) }
@@ -191,7 +206,8 @@ impl Store {
         requires named { (s : State) → Knows self.old s → number_of name.now s ≡ Some number }
         requires limit { HEAD_BYTES ≤ (D.state disk.old).limit }
 
-        ensures { Obeys D.tells (enters (Delete number)) (with_deleted name.now) NoRefusal (D.state disk.old) (D.state disk.new) self.old self.new result }
+        ensures { Obeys D.tells (enters (Delete number)) (with_deleted name.now) NoRefusal (D.state disk.old)
+            (D.state disk.new) self.old self.new result }
     {
         self.enter(disk, &Entry::Delete { number })
     }
@@ -245,7 +261,9 @@ impl Store {
         requires allowed { (s : State) → Knows self.old s → Allows s entry.now }
         requires limit { HEAD_BYTES ≤ (D.state disk.old).limit }
 
-        ensures { (step : State → State) → IsStepFrom entry.now step self.old → Obeys D.tells (enters entry.now) step NoRefusal (D.state disk.old) (D.state disk.new) self.old self.new result }
+        ensures { (step : State → State) → IsStepFrom entry.now step self.old
+            → Obeys D.tells (enters entry.now) step NoRefusal (D.state disk.old)
+            (D.state disk.new) self.old self.new result }
     {
         let Ok(ready) = ready(self.alloc, entry) else {
             return Err(StoreFault::Memory);
@@ -302,7 +320,8 @@ impl Store {
         requires room { needs_room self.old entry.now ≡ false }
         requires limit { HEAD_BYTES ≤ (D.state disk.old).limit }
 
-        ensures enters { (step : State → State) → IsStepOf entry.now step self.old → Enters D.tells entry.now step (D.state disk.old) (D.state disk.new) self.old self.new result }
+        ensures enters { (step : State → State) → IsStepOf entry.now step self.old
+            → Enters D.tells entry.now step (D.state disk.old) (D.state disk.new) self.old self.new result }
         ensures sound { is_sound self.new ≡ is_sound self.old }
         ensures slot { OnOk result (self.new.slot ≡ self.old.slot) }
     {

@@ -36,7 +36,8 @@ pub fn make_index<D: Disk>(disk: &mut D) -> Result<(), Failed>
     ensures opened { OnOk result (Stands D.tells (D.state disk.new) (IsOpened empty_opened)) }
     ensures holds { OnOk result (Stands D.tells (D.state disk.new) (IsHeld empty_held)) }
     // The bytes to the journal's end are these, and those behind it stay.
-    ensures written { D.tells → OnOk result ((D.state disk.new).content ≡ empty_head ++ drop HEAD_BYTES (D.state disk.old).content) }
+    ensures written { D.tells → OnOk result ((D.state disk.new).content
+        ≡ empty_head ++ drop HEAD_BYTES (D.state disk.old).content) }
     ensures cause { HasCause (D.state disk.old).faults (D.state disk.new).faults result }
     ensures taken { (D.state disk.new).taken ≡ (D.state disk.old).taken }
     ensures same_limit { (D.state disk.new).limit ≡ (D.state disk.old).limit }

@@ -92,7 +92,8 @@ impl Store {
     /// documents at most. Fails for want of memory alone.
     pub fn sources(&self) -> Result<Sources<'_>, AllocError>
         requires { IsIntact self.now }
-        ensures { IfOk result (λ found. IsSearched self.now found.levels.now found.newest.now found.gone.now found.rows) }
+        ensures { IfOk result (λ found. IsSearched self.now found.levels.now found.newest.now
+            found.gone.now found.rows) }
     {
         let (newest, gone) = self.catalog.newest();
         Ok(Sources {
@@ -148,8 +149,10 @@ impl Store {
         ensures job { IfOk result (λ store. store.job ≡ None) }
         ensures opens { Opens D.tells (D.state disk.old) (D.state disk.new) result }
         ensures durable { OnOk result (Only (D.state disk.new).content (D.state disk.new).images) }
-        ensures settled { IfErr result (λ e. (e ≡ DiskFault) ⊎ Only (D.state disk.new).content (D.state disk.new).images) }
-        ensures keeps { (opened : Opened) → D.tells → IsOpened opened (D.state disk.old).content → IfOk result (λ store. Keeps store opened) }
+        ensures settled { IfErr result (λ e. (e ≡ DiskFault)
+            ⊎ Only (D.state disk.new).content (D.state disk.new).images) }
+        ensures keeps { (opened : Opened) → D.tells → IsOpened opened (D.state disk.old).content
+            → IfOk result (λ store. Keeps store opened) }
     {
         let Ok(()) = disk.sync() else {
             return Err(StoreFault::Disk);
@@ -167,14 +170,16 @@ fn load<D: Disk>(alloc: Global, disk: &mut D) -> Result<Store, StoreFault>
     ensures ahead { IfOk result (λ store. store.ahead ≡ None) }
     ensures limit { OnOk result (HEAD_BYTES ≤ (D.state disk.old).limit) }
     ensures no_root { D.tells → result ≡ Err NoRoot → HasNoRoot (D.state disk.old).content }
-    ensures damaged { D.tells → (place : ℕ) → result ≡ Err (Damaged place) → IsBrokenAt (D.state disk.old).content place }
+    ensures damaged { D.tells → (place : ℕ) → result ≡ Err (Damaged place)
+        → IsBrokenAt (D.state disk.old).content place }
     ensures only { IfErr result (λ e. IsOutside e ⊎ ((e ≡ NoRoot) ⊎ ((place : ℕ) × (e ≡ Damaged place)))) }
     ensures content { D.tells → (D.state disk.new).content ≡ (D.state disk.old).content }
     ensures images { Passes Same (D.state disk.old) (D.state disk.new) }
     ensures cause { result ≡ Err DiskFault → Rose (D.state disk.old).faults (D.state disk.new).faults }
     ensures faults { (D.state disk.old).faults ≤ (D.state disk.new).faults }
     ensures read { D.tells → (slot : Slot) → (root : Root) → Counts slot root (D.state disk.old).content
-        → (D.state disk.new).taken ≤ (D.state disk.old).taken + (592 + named_bytes root (D.state disk.old).content + HALF_BYTES) }
+        → (D.state disk.new).taken ≤ (D.state disk.old).taken
+        + (592 + named_bytes root (D.state disk.old).content + HALF_BYTES) }
     ensures same_limit { (D.state disk.new).limit ≡ (D.state disk.old).limit }
 {
     let roots = match read_roots(disk) {
@@ -230,10 +235,13 @@ fn catalog_of(
     requires names { AreNames names (live_in deleted.now (table_rows levels.items)) }
     requires entries { All (λ p. MayBeRecorded root.now.version p.entry) found.now }
     ensures knows { (s : State) → (may : MayStart s root.now deleted.now levels.items)
-        → IfOk result (λ catalog. AllowsAll s (entries_in found.now) × KnowsBy catalog may.olds (after_entries s (entries_in found.now))) }
+        → IfOk result (λ catalog. AllowsAll s (entries_in found.now)
+        × KnowsBy catalog may.olds (after_entries s (entries_in found.now))) }
     ensures levels { IfOk result (λ catalog. levels_in catalog ≡ levels.items) }
     ensures follows { IfOk result (λ catalog. Follows catalog root.now (entries_in found.now)) }
-    ensures damaged { (s : State) → MayStart s root.now deleted.now levels.items → All (λ p. p.place < 4294967296) found.now → (place : ℕ) → result ≡ Err (DamagedEntry place) → IsRefusedAt s found.now place }
+    ensures damaged { (s : State) → MayStart s root.now deleted.now levels.items
+        → All (λ p. p.place < 4294967296) found.now → (place : ℕ) → result ≡ Err (DamagedEntry place)
+        → IsRefusedAt s found.now place }
     ensures only { IfErr result (λ e. (e ≡ NoMemory) ⊎ ((place : ℕ) × (e ≡ DamagedEntry place))) }
 {
     let Ok(mut catalog) = Catalog::new(alloc, root, levels, deleted, names) else {

@@ -49,7 +49,8 @@ impl Store {
         requires agrees { Agrees D.tells (D.state disk.old) self.old }
         requires limit { HEAD_BYTES ≤ (D.state disk.old).limit }
 
-        ensures obeys { Obeys D.tells flushes (λ s. s) NoRefusal (D.state disk.old) (D.state disk.new) self.old self.new result }
+        ensures obeys { Obeys D.tells flushes (λ s. s) NoRefusal (D.state disk.old)
+            (D.state disk.new) self.old self.new result }
         ensures idle { HasNoEntry self.old → (result ≡ Ok tt) × (disk.new ≡ disk.old) × (self.new ≡ self.old) }
         ensures unsound { OnErr result (is_sound self.new ≡ false) }
     {
@@ -77,7 +78,8 @@ impl Store {
         requires agrees { Agrees D.tells (D.state disk.old) self.old }
         requires limit { HEAD_BYTES ≤ (D.state disk.old).limit }
 
-        ensures obeys { Obeys D.tells merges (λ s. s) NoRefusal (D.state disk.old) (D.state disk.new) self.old self.new result }
+        ensures obeys { Obeys D.tells merges (λ s. s) NoRefusal (D.state disk.old)
+            (D.state disk.new) self.old self.new result }
         ensures idle { is_one self.old ≡ true → (result ≡ Ok tt) × (disk.new ≡ disk.old) × (self.new ≡ self.old) }
         ensures unsound { OnErr result (is_sound self.new ≡ false) }
     {
@@ -104,8 +106,10 @@ impl Store {
         requires agrees { Agrees D.tells (D.state disk.old) self.old }
         requires limit { HEAD_BYTES ≤ (D.state disk.old).limit }
 
-        ensures obeys { Obeys D.tells (steps n) (λ s. s) NoRefusal (D.state disk.old) (D.state disk.new) self.old self.new result }
-        ensures idle { length (levels_of self.old) < 2 → (result ≡ Ok tt) × (disk.new ≡ disk.old) × (self.new ≡ self.old) }
+        ensures obeys { Obeys D.tells (steps n) (λ s. s) NoRefusal (D.state disk.old)
+            (D.state disk.new) self.old self.new result }
+        ensures idle { length (levels_of self.old) < 2 → (result ≡ Ok tt) × (disk.new ≡ disk.old)
+            × (self.new ≡ self.old) }
         ensures unsound { OnErr result (is_sound self.new ≡ false) }
     {
         if self.root.levels.len() < 2 {
@@ -173,7 +177,8 @@ impl Store {
         requires some { is_one self.old ≡ false }
         requires limit { HEAD_BYTES ≤ (D.state disk.old).limit }
 
-        ensures { Obeys D.tells merges (λ s. s) NoRefusal (D.state disk.old) (D.state disk.new) self.old self.new result }
+        ensures { Obeys D.tells merges (λ s. s) NoRefusal (D.state disk.old)
+            (D.state disk.new) self.old self.new result }
     {
         self.job = None;
         let newest = match self.drain() {
@@ -203,7 +208,8 @@ impl Store {
         requires few { length (levels_of self.old) ≤ 16 }
         requires limit { HEAD_BYTES ≤ (D.state disk.old).limit }
 
-        ensures { Obeys D.tells (steps n) (λ s. s) NoRefusal (D.state disk.old) (D.state disk.new) self.old self.new result }
+        ensures { Obeys D.tells (steps n) (λ s. s) NoRefusal (D.state disk.old)
+            (D.state disk.new) self.old self.new result }
     {
         let mut job = match self.take_join(disk) {
             Ok(job) => job,
@@ -257,9 +263,11 @@ impl Store {
         requires documents { AreDocuments (table_rows (levels_of self.old)) }
         requires stands { D.tells → All (StandsOn (D.state disk.old).content) (levels_of self.old) }
         ensures goes_on { (merging : Merging) → self.old.job ≡ Some merging → result ≡ Ok merging }
-        ensures begins { self.old.job ≡ None → IfOk result (λ job. (joining : IsJoining (levels_of self.old) (gone_of self.old.catalog) job) × IsBegun joining
+        ensures begins { self.old.job ≡ None → IfOk result
+            (λ job. (joining : IsJoining (levels_of self.old) (gone_of self.old.catalog) job) × IsBegun joining
             × (D.tells → AreJoinedOn (D.state disk.old).content joining)) }
-        ensures reads { ReadsLevels D.tells (unless_read self.old.job (take 2 (levels_of self.old))) (D.state disk.old) (D.state disk.new) result }
+        ensures reads { ReadsLevels D.tells (unless_read self.old.job (take 2 (levels_of self.old))) (D.state disk.old)
+            (D.state disk.new) result }
         ensures taken { self.new ≡ record self.old { job = None } }
     {
         let goes_on = self.job.take();
@@ -277,10 +285,13 @@ impl Store {
         requires two { 2 ≤ length (levels_of self.old) }
         requires documents { AreDocuments (table_rows (levels_of self.old)) }
         requires stands { D.tells → All (StandsOn (D.state disk.old).content) (levels_of self.old) }
-        ensures goes_on { (merging : Merging) → self.old.job ≡ Some merging → IfOk result (λ content. content ≡ merging.whole) }
-        ensures begins { self.old.job ≡ None → IfOk result (λ content. (merging : Merging) × (joining : IsJoining (levels_of self.old) (gone_of self.old.catalog) merging) × IsBegun joining
+        ensures goes_on { (merging : Merging) → self.old.job ≡ Some merging
+            → IfOk result (λ content. content ≡ merging.whole) }
+        ensures begins { self.old.job ≡ None → IfOk result (λ content. (merging : Merging)
+            × (joining : IsJoining (levels_of self.old) (gone_of self.old.catalog) merging) × IsBegun joining
             × (D.tells → AreJoinedOn (D.state disk.old).content joining) × (content ≡ merging.whole)) }
-        ensures reads { ReadsLevels D.tells (unless_read self.old.job (take 2 (levels_of self.old))) (D.state disk.old) (D.state disk.new) result }
+        ensures reads { ReadsLevels D.tells (unless_read self.old.job (take 2 (levels_of self.old))) (D.state disk.old)
+            (D.state disk.new) result }
         ensures taken { self.new ≡ record self.old { job = None } }
     {
         let mut job = match self.take_join(disk) {
@@ -299,7 +310,8 @@ impl Store {
         requires may { (before : Store) × MayPut D.tells (D.state disk.old) before self.old levels }
         requires limit { HEAD_BYTES ≤ (D.state disk.old).limit }
 
-        ensures puts { (before : Store) → MayPut D.tells (D.state disk.old) before self.old levels → Puts D.tells levels (D.state disk.old) (D.state disk.new) before self.new result }
+        ensures puts { (before : Store) → MayPut D.tells (D.state disk.old) before self.old levels
+            → Puts D.tells levels (D.state disk.old) (D.state disk.new) before self.new result }
         ensures none { OnOk result (HasNoEntry self.new) }
         ensures version { OnOk result (self.new.root.version ≡ VERSION) }
         ensures job { OnOk result (self.new.job ≡ self.old.job) }

@@ -50,7 +50,8 @@ documents_format count = repeated documents_table count start []
 -- a row, by what the row before leaves behind
 abbrev pub row_bytes : Before → DocRow → List ℕ
 row_bytes before row =
-    number_bytes (row.number - before.number) ++ number_bytes (row.first - before.end) ++ number_bytes row.cells ++ length row.name ∷ row.name
+    number_bytes (row.number - before.number) ++ number_bytes (row.first - before.end) ++ number_bytes row.cells
+    ++ length row.name ∷ row.name
 
 abbrev pub documents_bytes : List DocRow → List ℕ
 documents_bytes rows = entries_bytes documents_table row_bytes start rows

@@ -12,7 +12,8 @@ Total = Result ((List TermRow × ℕ) × List ℕ) ℕ
 
 -- So many of the rows of a part stand before a place, and leave this behind. From there on reading finds what it finds of the whole
 -- part, `total`, which has so many rows, and so much room for their streams and summaries.
-pub record IsBehind (total : Total) (count room : ℕ) (rows : List TermRow) (i : ℕ) (behind : Behind) (rest : List ℕ) : Type 0 where
+pub record IsBehind (total : Total) (count room : ℕ) (rows : List TermRow) (i : ℕ) (behind : Behind)
+    (rest : List ℕ) : Type 0 where
   pub within : i ≤ length rows
   pub reads : read (repeated terms_table (count - i) behind (take i rows)) rest ≡ total
   pub sum : behind.room + data_bytes (take i rows) ≡ room
@@ -23,14 +24,17 @@ abbrev pub head_of : List ℕ → Mark → List ℕ
 head_of heads m = take m.len (drop m.start heads)
 
 -- each mark stands before its row: that of the first before the first, and each other sixteen rows behind the one before
-pub record IsMark (total : Total) (count room : ℕ) (bytes : List ℕ) (rows : List TermRow) (heads : List ℕ) (k : ℕ) (m : Mark) : Type 0 where
+pub record IsMark (total : Total) (count room : ℕ) (bytes : List ℕ) (rows : List TermRow) (heads : List ℕ) (k : ℕ)
+    (m : Mark) : Type 0 where
   pub lies : m.start + m.len ≤ length heads
   pub short : m.len ≤ 129
   pub inside : m.at ≤ length bytes
-  pub stands : IsBehind total count room rows (k * 16) (record { term = head_of heads m; room = m.left }) (drop m.at bytes)
+  pub stands : IsBehind total count room rows (k * 16)
+      (record { term = head_of heads m; room = m.left }) (drop m.at bytes)
 
 abbrev pub AreMarks : Total → ℕ → ℕ → List ℕ → List TermRow → List ℕ → List Mark → Type 0
-AreMarks total count room bytes rows heads marks = (k : ℕ) → (d : Mark) → k < length marks → IsMark total count room bytes rows heads k (slice_index_or marks k d)
+AreMarks total count room bytes rows heads marks = (k : ℕ) → (d : Mark) → k < length marks
+    → IsMark total count room bytes rows heads k (slice_index_or marks k d)
 
 -- ---- a part that was read
 
@@ -41,7 +45,8 @@ rows_found (Err left) = []
 
 -- the marks of a part whose rows were read
 pub record AreMarked (count room : ℕ) (bytes : List ℕ) (heads : List ℕ) (marks : List Mark) : Type 0 where
-  pub are : AreMarks (read (terms_format count room) bytes) count room bytes (rows_found (read (terms_format count room) bytes)) heads marks
+  pub are : AreMarks (read (terms_format count room) bytes) count room bytes
+      (rows_found (read (terms_format count room) bytes)) heads marks
   pub many : length marks ≡ (count + 15) / 16
 
 abbrev pub all_read : HeldTerms → Total

@@ -16,18 +16,23 @@ use Rattle.alta_table.specs.Tables.{KeepRules, Tables, tables_bytes, total_of}
 -- the place of a document's name: its row ends with it
 abbrev pub name_place : Tables → ℕ → ℕ
 name_place tables row =
-    tables.place + 32 + length (documents_bytes (take (row + 1) tables.documents)) - length (slice_index_or (map (λ d. d.name) tables.documents) row [])
+    tables.place + 32 + length (documents_bytes (take (row + 1) tables.documents))
+    - length (slice_index_or (map (λ d. d.name) tables.documents) row [])
 
 -- the place of a term's stream, behind the tables and the streams and summaries of the rows before
 abbrev pub stream_place : Tables → ℕ → ℕ
-stream_place tables row = tables.place + length (tables_bytes tables.documents tables.terms) + sum_by data_of (take row tables.terms)
+stream_place tables row = tables.place + length (tables_bytes tables.documents tables.terms)
+    + sum_by data_of (take row tables.terms)
 
 -- where the stream and the summary of a row stand
 abbrev pub stream_extent : Tables → ℕ → Extent
 stream_extent tables row = record { place = stream_place tables row; bytes = slice_index (streams_of tables.terms) row }
 
 abbrev pub summary_extent : Tables → ℕ → Extent
-summary_extent tables row = record { place = stream_place tables row + slice_index (streams_of tables.terms) row; bytes = slice_index (summaries_of tables.terms) row }
+summary_extent tables row = record {
+  place = stream_place tables row + slice_index (streams_of tables.terms) row;
+  bytes = slice_index (summaries_of tables.terms) row;
+}
 
 -- ---- what is kept beside the rows
 
@@ -35,7 +40,8 @@ summary_extent tables row = record { place = stream_place tables row + slice_ind
 unfoldable pub name_places : ℕ → Before → List DocRow → List ℕ
 name_places from before [] = []
 name_places from before (row ∷ rows) =
-    (from + length (row_bytes before row) - length row.name) ∷ name_places (from + length (row_bytes before row)) (behind_row before row) rows
+    (from + length (row_bytes before row) - length row.name) ∷ name_places (from + length (row_bytes before row))
+    (behind_row before row) rows
 
 abbrev pub tables_in : Parts → Tables
 tables_in p = record { place = p.place; documents = p.documents.value; terms = rows_in p.terms }

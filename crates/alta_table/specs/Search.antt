@@ -11,9 +11,12 @@ StartsWith prefix term = IsTrue (starts_with nat_eq term prefix)
 pub record IsPrefixRange (terms : List (List ℕ)) (prefix : List ℕ) (first behind : ℕ) : Type 0 where
   pub ordered : first ≤ behind
   pub within : behind ≤ length terms
-  pub inside : (i : ℕ) → (term : List ℕ) → slice_get terms i ≡ Some term → first ≤ i → i < behind → StartsWith prefix term
-  pub only : (i : ℕ) → (term : List ℕ) → slice_get terms i ≡ Some term → StartsWith prefix term → (first ≤ i) × (i < behind)
+  pub inside : (i : ℕ) → (term : List ℕ) → slice_get terms i ≡ Some term → first ≤ i → i < behind
+      → StartsWith prefix term
+  pub only : (i : ℕ) → (term : List ℕ) → slice_get terms i ≡ Some term → StartsWith prefix term
+      → (first ≤ i) × (i < behind)
 
 -- the term stands before a prefix or, where those count too, begins with it
 abbrev pub stands_by : List ℕ → Bool → List ℕ → Bool
-stands_by prefix begun term = if begun then (is_lt (slice_cmp nat_cmp term prefix) || starts_with nat_eq term prefix) else is_lt (slice_cmp nat_cmp term prefix)
+stands_by prefix begun term = if begun then (is_lt (slice_cmp nat_cmp term prefix) || starts_with nat_eq term prefix)
+    else is_lt (slice_cmp nat_cmp term prefix)

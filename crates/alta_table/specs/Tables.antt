@@ -19,7 +19,8 @@ pub record Tables : Type 0 where
 -- ---- the spelling
 
 abbrev pub head_bytes : Head → List ℕ
-head_bytes h = to_be_bytes w64 h.documents ++ to_be_bytes w64 h.terms ++ to_be_bytes w64 h.document_bytes ++ to_be_bytes w64 h.term_bytes
+head_bytes h = to_be_bytes w64 h.documents ++ to_be_bytes w64 h.terms ++ to_be_bytes w64 h.document_bytes
+    ++ to_be_bytes w64 h.term_bytes
 
 abbrev pub head_of : List DocRow → List TermRow → Head
 head_of documents terms = record {
@@ -92,7 +93,8 @@ tables_of bytes place total =
     part (documents_format h.documents) (document_part bytes h) (place + 32) >>= λ documents.
     part (terms_format h.terms (room total h)) (term_part bytes h) (place + 32 + h.document_bytes) >>= λ found.
     if nat_lt 0 found.1 then Err (place + (total - found.1))
-    else (if list_any is_end found.0 then Ok (record { place = place; documents = documents; terms = found.0 }) else Err (place + 8))
+    else (if list_any is_end found.0 then Ok (record { place = place; documents = documents; terms = found.0 })
+    else Err (place + 8))
 
 -- ---- the damage as a relation
 
@@ -100,23 +102,30 @@ abbrev pub HasHead : List ℕ → ℕ → Head → Type 0
 HasHead bytes total h = (rest : List ℕ) × Spells (head_format total) (head_part bytes total) h rest
 
 abbrev pub HasDocuments : List ℕ → Head → List DocRow → Type 0
-HasDocuments bytes h documents = (rest : List ℕ) × Spells (documents_format h.documents) (document_part bytes h) documents rest
+HasDocuments bytes h documents = (rest : List ℕ)
+    × Spells (documents_format h.documents) (document_part bytes h) documents rest
 
 -- the terms, and how many bytes no stream or summary takes
 abbrev pub HasTerms : List ℕ → ℕ → Head → List TermRow × ℕ → Type 0
-HasTerms bytes total h found = (rest : List ℕ) × Spells (terms_format h.terms (room total h)) (term_part bytes h) found rest
+HasTerms bytes total h found = (rest : List ℕ)
+    × Spells (terms_format h.terms (room total h)) (term_part bytes h) found rest
 
 -- the first damage, in a segment of so many bytes that begins at a place
 pub data IsDamage (bytes : List ℕ) (place total : ℕ) : ℕ → Type 0 where
   in_head : (p : ℕ) → FirstBroken (head_format total) (head_part bytes total) place p → IsDamage bytes place total p
-  in_documents : (h : Head) (p : ℕ) → HasHead bytes total h → FirstBroken (documents_format h.documents) (document_part bytes h) (place + 32) p → IsDamage bytes place total p
+  in_documents : (h : Head) (p : ℕ) → HasHead bytes total h
+      → FirstBroken (documents_format h.documents) (document_part bytes h) (place + 32) p → IsDamage bytes place total p
   in_terms : (h : Head) (documents : List DocRow) (p : ℕ) → HasHead bytes total h → HasDocuments bytes h documents
-      → FirstBroken (terms_format h.terms (room total h)) (term_part bytes h) (place + 32 + h.document_bytes) p → IsDamage bytes place total p
-  behind_streams : (h : Head) (documents : List DocRow) (terms : List TermRow) (left : ℕ) → HasHead bytes total h → HasDocuments bytes h documents → HasTerms bytes total h (terms, left)
+      → FirstBroken (terms_format h.terms (room total h)) (term_part bytes h) (place + 32 + h.document_bytes) p
+      → IsDamage bytes place total p
+  behind_streams : (h : Head) (documents : List DocRow) (terms : List TermRow) (left : ℕ) → HasHead bytes total h
+      → HasDocuments bytes h documents → HasTerms bytes total h (terms, left)
       → 0 < left → IsDamage bytes place total (place + (total - left))
-  no_end : (h : Head) (documents : List DocRow) (terms : List TermRow) → HasHead bytes total h → HasDocuments bytes h documents → HasTerms bytes total h (terms, 0)
+  no_end : (h : Head) (documents : List DocRow) (terms : List TermRow) → HasHead bytes total h
+      → HasDocuments bytes h documents → HasTerms bytes total h (terms, 0)
       → list_any is_end terms ≡ false → IsDamage bytes place total (place + 8)
 
 -- the bytes have the whole parts of which the head speaks
 abbrev pub HasParts : List ℕ → ℕ → ℕ → Type 0
-HasParts bytes place total = (h : Head) → read_head bytes place total ≡ Ok h → 32 + h.document_bytes + h.term_bytes ≤ length bytes
+HasParts bytes place total = (h : Head) → read_head bytes place total ≡ Ok h
+    → 32 + h.document_bytes + h.term_bytes ≤ length bytes

@@ -38,7 +38,12 @@ HasEnd rows = IsTrue (list_any is_end rows)
 
 -- the row of these fields, behind one of the term `before`
 abbrev pub entry_row : List ℕ → TermFields → TermRow
-entry_row before entry = record { term = take entry.shared before ++ entry.rest.now; count = entry.count; stream = entry.stream; summary = entry.summary }
+entry_row before entry = record {
+  term = take entry.shared before ++ entry.rest.now;
+  count = entry.count;
+  stream = entry.stream;
+  summary = entry.summary;
+}
 
 -- ---- the rules, each of one field
 
@@ -54,7 +59,8 @@ first_byte before shared b = if nat_lt 0 shared then slice_index before 0 else b
 -- goes on, its next byte is lower.
 abbrev pub continues : List ℕ → ℕ → List ℕ → Bool
 continues before shared [] = false
-continues before shared (b ∷ rest) = is_kind (first_byte before shared b) && (if nat_lt shared (length before) then nat_lt (slice_index before shared) b else true)
+continues before shared (b ∷ rest) = is_kind (first_byte before shared b)
+    && (if nat_lt shared (length before) then nat_lt (slice_index before shared) b else true)
 
 -- ---- the fields
 
@@ -97,7 +103,8 @@ shared_len before term = common_prefix_len nat_eq before term
 -- an entry behind the term `before`
 abbrev pub entry_bytes : List ℕ → TermRow → List ℕ
 entry_bytes before row =
-    number_bytes (shared_len before row.term) ++ number_bytes (length row.term - shared_len before row.term) ++ drop (shared_len before row.term) row.term
+    number_bytes (shared_len before row.term) ++ number_bytes (length row.term - shared_len before row.term)
+    ++ drop (shared_len before row.term) row.term
     ++ number_bytes row.count ++ number_bytes row.stream ++ number_bytes row.summary
 
 -- entries behind the term `before`

@@ -104,7 +104,8 @@ impl<'a> TermCursor<'a> {
         ensures summary { result.1 ≡ summary_extent self.now.tables self.now.row }
         // They end within the segment, the summary behind the stream.
         ensures beside { result.1.place ≡ result.0.place + result.0.bytes }
-        ensures within { result.1.place + result.1.bytes ≤ self.now.tables.place + total_of self.now.tables.documents self.now.tables.terms }
+        ensures within { result.1.place + result.1.bytes ≤ self.now.tables.place
+            + total_of self.now.tables.documents self.now.tables.terms }
     {
         let summary = self.parts.end - self.walk.left - self.walk.summary;
         (

@@ -48,7 +48,8 @@ fn is_graphic_name(name: &[u8]) -> bool
 
 // The text of graphic ASCII bytes, None where one is not.
 fn graphic_text(name: &[u8]) -> Option<&str>
-    ensures { MatchOption result (is_graphic_text name.now ≡ false) (λ s. (s.now ≡ name.now) × IsTrue (is_graphic_text name.now)) }
+    ensures { MatchOption result (is_graphic_text name.now ≡ false) (λ s. (s.now ≡ name.now)
+        × IsTrue (is_graphic_text name.now)) }
 {
     if !is_graphic_name(name) {
         return None;
@@ -69,7 +70,8 @@ fn row_at(
 ) -> Result<(DocRow, &[u8]), ReadFault>
     requires number { number < TOP }
     requires end { end < TOP }
-    ensures gives { Gives (λ x. (x.0, x.1.now)) result (read (row_format (record { number = number; end = end })) bytes.now) }
+    ensures gives { Gives (λ x. (x.0, x.1.now)) result
+        (read (row_format (record { number = number; end = end })) bytes.now) }
     ensures cells { IfOk result (λ x. 3 ≤ x.0.cells) }
     ensures number_below { IfOk result (λ x. x.0.number < TOP) }
     ensures end_below { IfOk result (λ x. end_of x.0 < TOP) }

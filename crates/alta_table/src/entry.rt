@@ -61,7 +61,8 @@ pub fn entry_at<'a>(
     bytes: &'a [u8],
 ) -> Result<(TermFields<'a>, &'a [u8]), ReadFault>
     requires { length before.now ≤ LONGEST }
-    ensures gives { AlwaysGives (λ x. (entry_row before.now x.0, x.1.now)) result (read (term_format (record { term = before.now; room = room })) bytes.now) }
+    ensures gives { AlwaysGives (λ x. (entry_row before.now x.0, x.1.now)) result
+        (read (term_format (record { term = before.now; room = room })) bytes.now) }
     ensures shared { IfOk result (λ x. x.0.shared ≤ length before.now) }
     ensures short { IfOk result (λ x. x.0.shared + length x.0.rest.now ≤ LONGEST) }
     ensures fits { IfOk result (λ x. x.0.stream + x.0.summary ≤ room) }

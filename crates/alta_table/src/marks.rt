@@ -55,7 +55,9 @@ impl Marks {
     fn push(&mut self, at: usize, walk: &Walk<'_>) -> Result<(), AllocError>
         requires { walk.now.len ≤ 129 }
         ensures heads { OnOk result (self.new.heads.items ≡ self.old.heads.items ++ (behind_of walk.now).term) }
-        ensures marks { OnOk result (self.new.marks.items ≡ self.old.marks.items ++ (record { at = at; left = walk.now.left; start = length self.old.heads.items; len = walk.now.len }) ∷ []) }
+        ensures marks { OnOk result (self.new.marks.items ≡ self.old.marks.items
+            ++ (record { at = at; left = walk.now.left; start = length self.old.heads.items; len = walk.now.len })
+            ∷ []) }
     {
         let start = self.heads.len();
         self.heads.extend_from_slice(walk.term())?;
@@ -76,8 +78,10 @@ impl Marks {
         requires inside { length walk.now.rest.now ≤ length bytes.now }
         requires rest { drop (length bytes.now - length walk.now.rest.now) bytes.now ≡ walk.now.rest.now }
         ensures many { OnOk result (length self.new.marks.items ≡ (row + 16) / 16) }
-        ensures marks { OnOk result ((total : Total) → (count room : ℕ) → (rows : List TermRow) → IsBehind total count room rows row (behind_of walk.now) walk.now.rest.now
-            → AreMarks total count room bytes.now rows self.old.heads.items self.old.marks.items → AreMarks total count room bytes.now rows self.new.heads.items self.new.marks.items) }
+        ensures marks { OnOk result ((total : Total) → (count room : ℕ) → (rows : List TermRow)
+            → IsBehind total count room rows row (behind_of walk.now) walk.now.rest.now
+            → AreMarks total count room bytes.now rows self.old.heads.items self.old.marks.items
+            → AreMarks total count room bytes.now rows self.new.heads.items self.new.marks.items) }
     {
         if row % STRIDE as u64 == 0 {
             self.push(bytes.len() - walk.rest.len(), walk)?;

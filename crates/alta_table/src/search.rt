@@ -26,7 +26,9 @@ fn stands(term: &[u8], prefix: &[u8], begun: bool) -> bool
 
 // The last mark behind a row whose term stands so, or the first.
 fn last_mark(marks: &Marks, prefix: &[u8], begun: bool) -> usize
-    ensures { (result ≡ 0) ⊎ ((result < length marks.now.marks.items) × ((d : Mark) → stands_by prefix.now begun (head_of marks.now.heads.items (slice_index_or marks.now.marks.items result d)) ≡ true)) }
+    ensures { (result ≡ 0) ⊎ ((result < length marks.now.marks.items)
+        × ((d : Mark) → stands_by prefix.now begun
+        (head_of marks.now.heads.items (slice_index_or marks.now.marks.items result d)) ≡ true)) }
 {
     let mut low = 0;
     let mut high = marks.marks.len();
@@ -45,7 +47,8 @@ fn last_mark(marks: &Marks, prefix: &[u8], begun: bool) -> usize
 fn point<'a>(terms: &'a HeldTerms, prefix: &[u8], begun: bool) -> (usize, Walk<'a>)
     requires { IsHeld terms.now 0 }
     ensures within { result.0 ≤ length (rows_in terms.now) }
-    ensures point { IsPartitionPoint (λ row. stands_by prefix.now begun row.term ≡ true) (λ row. stands_by prefix.now begun row.term ≡ false) (rows_in terms.now) result.0 }
+    ensures point { IsPartitionPoint (λ row. stands_by prefix.now begun row.term ≡ true)
+        (λ row. stands_by prefix.now begun row.term ≡ false) (rows_in terms.now) result.0 }
     ensures passed { result.0 < length (rows_in terms.now) → HasPassed terms.now result.0 result.1 }
 {
     let mark = last_mark(&terms.marks, prefix, begun);
@@ -64,7 +67,8 @@ fn point<'a>(terms: &'a HeldTerms, prefix: &[u8], begun: bool) -> (usize, Walk<'
 /// The row of a term, and a walk that has passed it, None exactly where the term is not there.
 pub fn find_in<'a>(terms: &'a HeldTerms, term: &[u8]) -> Option<(usize, Walk<'a>)>
     requires { IsHeld terms.now 0 }
-    ensures row { MatchOption result ((i : ℕ) → slice_get (terms_of (rows_in terms.now)) i ≡ Some term.now → ⊥) (λ x. slice_get (terms_of (rows_in terms.now)) x.0 ≡ Some term.now) }
+    ensures row { MatchOption result ((i : ℕ) → slice_get (terms_of (rows_in terms.now)) i ≡ Some term.now
+        → ⊥) (λ x. slice_get (terms_of (rows_in terms.now)) x.0 ≡ Some term.now) }
     ensures passed { IfSome result (λ x. HasPassed terms.now x.0 x.1) }
 {
     let (row, walk) = point(terms, term, false);

@@ -65,7 +65,8 @@ fn shared(alloc: Global, rows: Vec<DocRow>) -> Result<Rc<LevelRows>, AllocError>
 #[tactic(auto, unfolding(crate::specs::Tables::tables_of))]
 fn opened(alloc: Global, bytes: &[u8], place: u64, total: u64) -> Result<Parts, LevelFault>
     requires below { place + total < 2 ^ 64 }
-    requires whole { (h : Head) → read_head bytes.now place total ≡ Ok h → length bytes.now ≡ 32 + h.document_bytes + h.term_bytes }
+    requires whole { (h : Head) → read_head bytes.now place total ≡ Ok h
+        → length bytes.now ≡ 32 + h.document_bytes + h.term_bytes }
     ensures exact { Answers tables_in result (tables_of bytes.now place total) }
     ensures names { IfOk result (λ p. p.names.items ≡ name_places (place + 32) start p.documents.value) }
     ensures held { IfOk result (λ p. IsHeld p.terms 0) }
@@ -99,7 +100,8 @@ fn opened(alloc: Global, bytes: &[u8], place: u64, total: u64) -> Result<Parts, 
 
 fn table_of(alloc: Global, bytes: &[u8], place: u64, total: u64) -> Result<OpenLevel, LevelFault>
     requires below { place + total < 2 ^ 64 }
-    requires whole { (h : Head) → read_head bytes.now place total ≡ Ok h → length bytes.now ≡ 32 + h.document_bytes + h.term_bytes }
+    requires whole { (h : Head) → read_head bytes.now place total ≡ Ok h
+        → length bytes.now ≡ 32 + h.document_bytes + h.term_bytes }
     ensures { Answers (λ x. x) result (tables_of bytes.now place total) }
 {
     let parts = opened(alloc, bytes, place, total)?;
@@ -119,7 +121,8 @@ impl OpenLevel {
         total: u64,
     ) -> Result<OpenLevel, LevelFault>
         requires below { place + total < 2 ^ 64 }
-        requires whole { (h : Head) → read_head bytes.now place total ≡ Ok h → length bytes.now ≡ 32 + h.document_bytes + h.term_bytes }
+        requires whole { (h : Head) → read_head bytes.now place total ≡ Ok h
+            → length bytes.now ≡ 32 + h.document_bytes + h.term_bytes }
         // What is read is spelled so.
         ensures found { IfOk result (AreTables bytes.now place total) }
         ensures spelled { IfOk result (λ t. bytes.now ≡ tables_bytes t.documents t.terms) }
@@ -188,7 +191,8 @@ impl OpenLevel {
     /// The row of a term, and what it says, None exactly where the term is not there. It looks by halves.
     pub fn look_up(&self, term: &[u8]) -> Option<TermCursor<'_>>
         ensures tables { IfSome result (λ c. c.tables ≡ self.now) }
-        ensures row { MatchOption (row_at result) ((i : ℕ) → slice_get (terms_of self.now.terms) i ≡ Some term.now → ⊥) (λ i. slice_get (terms_of self.now.terms) i ≡ Some term.now) }
+        ensures row { MatchOption (row_at result) ((i : ℕ) → slice_get (terms_of self.now.terms) i ≡ Some term.now
+            → ⊥) (λ i. slice_get (terms_of self.now.terms) i ≡ Some term.now) }
     {
         match find_in(&self.parts.terms, term) {
             Some((row, walk)) => Some(TermCursor::behind(&self.parts, row, walk)),
@@ -198,7 +202,8 @@ impl OpenLevel {
 
     /// The number of a term's row, None exactly where the term is not there. It looks by halves.
     pub fn find(&self, term: &[u8]) -> Option<usize>
-        ensures { MatchOption result ((i : ℕ) → slice_get (terms_of self.now.terms) i ≡ Some term.now → ⊥) (λ i. slice_get (terms_of self.now.terms) i ≡ Some term.now) }
+        ensures { MatchOption result ((i : ℕ) → slice_get (terms_of self.now.terms) i ≡ Some term.now
+            → ⊥) (λ i. slice_get (terms_of self.now.terms) i ≡ Some term.now) }
     {
         match self.look_up(term) {
             Some(cursor) => Some(cursor.row()),

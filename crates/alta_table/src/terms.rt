@@ -27,7 +27,8 @@ pub struct HeldTerms {
 // The marks of so many rows, which are all of the bytes, and how much of the room no stream or summary takes.
 // A row takes six bytes at least, so no false count takes more memory than the part.
 fn marks_of(alloc: Global, count: u64, room: u64, bytes: &[u8]) -> Result<(Marks, u64), ReadFault>
-    ensures gives { Gives (λ x. ((rows_found (read (terms_format count room) bytes.now), x.1), [])) result (read (terms_format count room) bytes.now) }
+    ensures gives { Gives (λ x. ((rows_found (read (terms_format count room) bytes.now), x.1), [])) result
+        (read (terms_format count room) bytes.now) }
     ensures marked { IfOk result (λ x. AreMarked count room bytes.now x.0.heads.items x.0.marks.items) }
 {
     let most = (bytes.len() as u64 / 6).min(count) as usize;

@@ -59,7 +59,8 @@ impl<'a> Walk<'a> {
     /// Reads the next row, and passes it. Where it breaks a rule, the walk stays before it.
     pub fn step(&mut self) -> Result<(), ReadFault>
         requires { self.old.len ≤ LONGEST }
-        ensures gives { AlwaysGives (λ _. (row_of self.new, self.new.rest.now)) result (read (term_format (behind_of self.old)) self.old.rest.now) }
+        ensures gives { AlwaysGives (λ _. (row_of self.new, self.new.rest.now)) result
+            (read (term_format (behind_of self.old)) self.old.rest.now) }
         ensures left { IfOk result (λ _. self.new.left + self.new.stream + self.new.summary ≡ self.old.left) }
         ensures short { self.new.len ≤ LONGEST }
     {
@@ -78,7 +79,8 @@ impl<'a> Walk<'a> {
     pub fn pass(&mut self)
         requires next { IsNext self.old }
         requires short { self.old.len ≤ LONGEST }
-        ensures reads { read (term_format (behind_of self.old)) self.old.rest.now ≡ Ok (row_of self.new, self.new.rest.now) }
+        ensures reads { read (term_format (behind_of self.old)) self.old.rest.now
+            ≡ Ok (row_of self.new, self.new.rest.now) }
         ensures left { self.new.left + self.new.stream + self.new.summary ≡ self.old.left }
         ensures short { self.new.len ≤ LONGEST }
     {

@@ -95,7 +95,9 @@ fn put_entry(
     stream: u64,
     summary: u64,
 ) -> Result<(), AllocError>
-    ensures { PutsBytes (entry_bytes before.now (record { term = term.now; count = count; stream = stream; summary = summary })) out.old.items out.new.items result }
+    ensures { PutsBytes (entry_bytes before.now
+        (record { term = term.now; count = count; stream = stream; summary = summary })) out.old.items
+        out.new.items result }
 {
     let (front, rest) = term.split_at(shared(before, term));
     put_number(out, front.len() as u64)?;
@@ -117,7 +119,9 @@ pub fn put_term(
     stream: u64,
     summary: u64,
 ) -> Result<(), AllocError>
-    ensures ok { OnOk result (out.new.items ≡ out.old.items ++ entry_bytes before.now (record { term = term.now; count = count; stream = stream; summary = summary })) }
+    ensures ok { OnOk result (out.new.items
+        ≡ out.old.items ++ entry_bytes before.now
+        (record { term = term.now; count = count; stream = stream; summary = summary })) }
     ensures err { OnErr result (out.new.items ≡ out.old.items) }
 {
     let len = out.len();

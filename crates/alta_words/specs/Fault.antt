@@ -24,7 +24,8 @@ pub record IsFirstDifferent (stream summary : List ℕ) (b i : ℕ) : Type 0 whe
 
 -- the stream's own fault, else the summary's, else the first row that differs
 abbrev pub IsPostingFault : List ℕ → List ℕ → PostingFault → Type 0
-IsPostingFault stream summary (wrong.Stream place) = (why : StreamCause) × (first_fault stream ≡ Some (fault_at place why))
+IsPostingFault stream summary (wrong.Stream place) = (why : StreamCause)
+    × (first_fault stream ≡ Some (fault_at place why))
 IsPostingFault stream summary (wrong.Summary place) = Spells stream (decoded_list stream) × IsFault summary place
 IsPostingFault stream summary (wrong.Differ row) = (b : ℕ) × IsFirstDifferent stream summary b row
 

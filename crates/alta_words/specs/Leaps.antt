@@ -4,7 +4,8 @@ use Rattle.alta_codec.specs.Rising.{count_from}
 
 -- A sound reader of the same list stands at a place behind where it stood. What is left of it fell, and at least by the steps, of
 -- which the move added one.
-pub record Leaps {R : Type 0} (Sound : R → Type 0) (list : R → List ℕ) (location : R → ℕ) (old new : R) (place before after : ℕ) : Type 0 where
+pub record Leaps {R : Type 0} (Sound : R → Type 0) (list : R → List ℕ) (location : R → ℕ) (old new : R)
+    (place before after : ℕ) : Type 0 where
   pub sound : Sound new
   pub same_list : list new ≡ list old
   pub stands : location new ≡ place

@@ -32,7 +32,8 @@ fn seek_leaf<L: Ledger>(leaves: &mut [Leaf<'_>], j: usize, to: Loc, steps: &mut 
     requires top { to ≤ TOP }
     ensures sound { All IsSoundLeaf leaves.new }
     ensures lists { map leaf_list leaves.new ≡ map leaf_list leaves.old }
-    ensures places { map leaf_place leaves.new ≡ slice_set (map leaf_place leaves.old) j (first_from (slice_index_or (map leaf_list leaves.old) j []) to) }
+    ensures places { map leaf_place leaves.new
+        ≡ slice_set (map leaf_place leaves.old) j (first_from (slice_index_or (map leaf_list leaves.old) j []) to) }
     ensures moved { MovesAtMostOne leaves.old leaves.new }
     ensures one { steps.new ≡ steps.old + 1 }
 {
@@ -45,8 +46,10 @@ fn leaf_from(leaves: &[Leaf<'_>], from: usize, to: Loc) -> usize
     requires within { from ≤ length leaves.now }
     ensures after { from ≤ result }
     ensures within { result ≤ length leaves.now }
-    ensures skipped { (k : ℕ) → from ≤ k → k < result → pred_of (slice_index_or (map leaf_list leaves.now) k []) TOP < to }
-    ensures found { result < length leaves.now → to ≤ pred_of (slice_index_or (map leaf_list leaves.now) result []) TOP }
+    ensures skipped { (k : ℕ) → from ≤ k → k < result
+        → pred_of (slice_index_or (map leaf_list leaves.now) k []) TOP < to }
+    ensures found { result < length leaves.now
+        → to ≤ pred_of (slice_index_or (map leaf_list leaves.now) result []) TOP }
 {
     let mut at = from;
     'leaves: while at < leaves.len() && last_at(leaves, at) < to {
@@ -131,7 +134,8 @@ impl<'a> ChainReader<'a> {
         ensures sound { ⟦<ChainReader<'a> as Reader>⟧.sound result }
         ensures list { ⟦<ChainReader<'a> as Reader>⟧.list result ≡ concat (map leaf_list leaves.entry.items) }
         ensures all { ⟦<ChainReader<'a> as Reader>⟧.all result ≡ concat (map leaf_list leaves.entry.items) }
-        ensures unmoved { ⟦<ChainReader<'a> as Reader>⟧.location result ≡ first_from (concat (map leaf_list leaves.entry.items)) 0 }
+        ensures unmoved { ⟦<ChainReader<'a> as Reader>⟧.location result
+            ≡ first_from (concat (map leaf_list leaves.entry.items)) 0 }
         ensures left { ⟦<ChainReader<'a> as Reader>⟧.left result ≡ length (concat (map leaf_list leaves.entry.items)) }
         ensures leaves { leaves_of result ≡ leaves.entry.items }
     {
@@ -141,7 +145,8 @@ impl<'a> ChainReader<'a> {
 }
 
 impl<'a> Reader for ChainReader<'a> {
-    ghost sound = { λ s. All IsSoundLeaf s.leaves.items × IsChain (map leaf_list s.leaves.items) (map leaf_place s.leaves.items) s.at };
+    ghost sound = { λ s. All IsSoundLeaf s.leaves.items
+        × IsChain (map leaf_list s.leaves.items) (map leaf_place s.leaves.items) s.at };
 
     ghost list = { λ s. concat (map leaf_list s.leaves.items) };
 
@@ -149,7 +154,8 @@ impl<'a> Reader for ChainReader<'a> {
 
     ghost all = { λ s. concat (map leaf_list s.leaves.items) };
 
-    ghost left = { λ s. count_from (concat (map leaf_list s.leaves.items)) (slice_index_or (map leaf_place s.leaves.items) s.at TOP) };
+    ghost left = { λ s. count_from (concat (map leaf_list s.leaves.items))
+        (slice_index_or (map leaf_place s.leaves.items) s.at TOP) };
 
     ghost cost = { λ s. 1 };
 
@@ -169,9 +175,12 @@ impl<'a> Reader for ChainReader<'a> {
         ensures sound { ⟦<ChainReader<'a> as Reader>⟧.sound self.new }
         ensures list { ⟦<ChainReader<'a> as Reader>⟧.list self.new ≡ ⟦<ChainReader<'a> as Reader>⟧.list self.old }
         ensures all { ⟦<ChainReader<'a> as Reader>⟧.all self.new ≡ ⟦<ChainReader<'a> as Reader>⟧.all self.old }
-        ensures location { ⟦<ChainReader<'a> as Reader>⟧.location self.new ≡ first_from (⟦<ChainReader<'a> as Reader>⟧.list self.old) (⟦<ChainReader<'a> as Reader>⟧.location self.old + 1) }
+        ensures location { ⟦<ChainReader<'a> as Reader>⟧.location self.new
+            ≡ first_from (⟦<ChainReader<'a> as Reader>⟧.list self.old)
+            (⟦<ChainReader<'a> as Reader>⟧.location self.old + 1) }
         ensures falls { ⟦<ChainReader<'a> as Reader>⟧.left self.new < ⟦<ChainReader<'a> as Reader>⟧.left self.old }
-        ensures steps { steps.new + ⟦<ChainReader<'a> as Reader>⟧.left self.new ≤ steps.old + ⟦<ChainReader<'a> as Reader>⟧.left self.old }
+        ensures steps { steps.new + ⟦<ChainReader<'a> as Reader>⟧.left self.new
+            ≤ steps.old + ⟦<ChainReader<'a> as Reader>⟧.left self.old }
         ensures cost { steps.new ≤ steps.old + 1 }
         ensures moved { MovesAtMostOne (leaves_of self.old) (leaves_of self.new) }
     {
@@ -188,9 +197,11 @@ impl<'a> Reader for ChainReader<'a> {
         ensures sound { ⟦<ChainReader<'a> as Reader>⟧.sound self.new }
         ensures list { ⟦<ChainReader<'a> as Reader>⟧.list self.new ≡ ⟦<ChainReader<'a> as Reader>⟧.list self.old }
         ensures all { ⟦<ChainReader<'a> as Reader>⟧.all self.new ≡ ⟦<ChainReader<'a> as Reader>⟧.all self.old }
-        ensures location { ⟦<ChainReader<'a> as Reader>⟧.location self.new ≡ first_from (⟦<ChainReader<'a> as Reader>⟧.list self.old) to }
+        ensures location { ⟦<ChainReader<'a> as Reader>⟧.location self.new
+            ≡ first_from (⟦<ChainReader<'a> as Reader>⟧.list self.old) to }
         ensures falls { ⟦<ChainReader<'a> as Reader>⟧.left self.new < ⟦<ChainReader<'a> as Reader>⟧.left self.old }
-        ensures steps { steps.new + ⟦<ChainReader<'a> as Reader>⟧.left self.new ≤ steps.old + ⟦<ChainReader<'a> as Reader>⟧.left self.old }
+        ensures steps { steps.new + ⟦<ChainReader<'a> as Reader>⟧.left self.new
+            ≤ steps.old + ⟦<ChainReader<'a> as Reader>⟧.left self.old }
         ensures cost { steps.new ≤ steps.old + 1 }
         ensures moved { MovesAtMostOne (leaves_of self.old) (leaves_of self.new) }
     {

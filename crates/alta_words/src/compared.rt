@@ -88,7 +88,8 @@ impl Compared {
     pub fn with(self, stream: &[u8], table: &Summary<'_>, span: &BlockSpan) -> Compared
         requires read { IsComparedTo stream.now table.now.bytes table.now.count self }
         requires more { self.at < length stream.now }
-        requires block { IsBlockRead stream.now self.at self.last span.now.first span.now.last span.now.count span.now.next }
+        requires block { IsBlockRead stream.now self.at self.last span.now.first span.now.last
+            span.now.count span.now.next }
         ensures read { IsComparedTo stream.now table.now.bytes table.now.count result }
         ensures at { result.at ≡ span.now.next }
         ensures last { result.last ≡ span.now.last }
@@ -109,7 +110,8 @@ impl Compared {
         requires read { IsComparedTo stream.now table.now.bytes table.now.count self }
         requires end { length stream.now ≤ self.at }
         ensures posting { IfOk result (λ bounds. IsPosting stream.now table.now.bytes bounds.rows) }
-        ensures bounds { IfOk result (λ bounds. HasBounds (decoded_list stream.now) bounds.count bounds.first bounds.last) }
+        ensures bounds { IfOk result (λ bounds. HasBounds (decoded_list stream.now) bounds.count
+            bounds.first bounds.last) }
         ensures fault { IfErr result (λ fault. IsPostingFault stream.now table.now.bytes fault) }
     {
         let rows = table.rows();

@@ -60,7 +60,8 @@ impl<'a> Reader for Leaf<'a> {
     fn next<L: Ledger>(&mut self, steps: &mut Steps<L>)
         requires sound { IsSoundLeaf self.old }
         requires below { leaf_place self.old < TOP }
-        ensures { Leaps IsSoundLeaf leaf_list leaf_place self.old self.new (first_from (leaf_list self.old) (leaf_place self.old + 1)) steps.old steps.new }
+        ensures { Leaps IsSoundLeaf leaf_list leaf_place self.old self.new
+            (first_from (leaf_list self.old) (leaf_place self.old + 1)) steps.old steps.new }
     {
         match self {
             Leaf::Coded(reader) => reader.next(steps),
@@ -74,7 +75,8 @@ impl<'a> Reader for Leaf<'a> {
         requires sound { IsSoundLeaf self.old }
         requires above { leaf_place self.old < to }
         requires top { to ≤ TOP }
-        ensures { Leaps IsSoundLeaf leaf_list leaf_place self.old self.new (first_from (leaf_list self.old) to) steps.old steps.new }
+        ensures { Leaps IsSoundLeaf leaf_list leaf_place self.old self.new
+            (first_from (leaf_list self.old) to) steps.old steps.new }
     {
         match self {
             Leaf::Coded(reader) => reader.seek(to, steps),

@@ -22,7 +22,8 @@ impl<'a> PlainReader<'a> {
     /// A reader of `list`, which stands at its first location, or at `TOP` where it is empty. It adds one step.
     pub fn new<L: Ledger>(list: &'a [u64], steps: &mut Steps<L>) -> PlainReader<'a>
         requires { IsRising list.now }
-        ensures { IsNewReader IsSoundPlain plain_list plain_list plain_place plain_left list.now steps.old steps.new result }
+        ensures { IsNewReader IsSoundPlain plain_list plain_list plain_place plain_left list.now
+            steps.old steps.new result }
     {
         steps.tick();
         PlainReader { list, at: 0 }
@@ -66,7 +67,8 @@ impl<'a> Reader for PlainReader<'a> {
     fn next<L: Ledger>(&mut self, steps: &mut Steps<L>)
         requires sound { IsSoundPlain self.old }
         requires below { plain_place self.old < TOP }
-        ensures { Leaps IsSoundPlain plain_list plain_place self.old self.new (first_from (plain_list self.old) (plain_place self.old + 1)) steps.old steps.new }
+        ensures { Leaps IsSoundPlain plain_list plain_place self.old self.new
+            (first_from (plain_list self.old) (plain_place self.old + 1)) steps.old steps.new }
     {
         steps.tick();
         self.at += 1;
@@ -78,7 +80,8 @@ impl<'a> Reader for PlainReader<'a> {
         requires sound { IsSoundPlain self.old }
         requires above { plain_place self.old < to }
         requires top { to ≤ TOP }
-        ensures { Leaps IsSoundPlain plain_list plain_place self.old self.new (first_from (plain_list self.old) to) steps.old steps.new }
+        ensures { Leaps IsSoundPlain plain_list plain_place self.old self.new
+            (first_from (plain_list self.old) to) steps.old steps.new }
     {
         steps.tick();
         self.at = index_from(self.list, self.at, to);

@@ -32,7 +32,8 @@ impl Model for Posting {
 
     ghost view = { λ p. decoded_list p.stream.items };
 
-    ghost invariant = { λ p. IsPosting p.stream.items p.summary.items p.rows × HasBounds (decoded_list p.stream.items) p.count p.first p.last };
+    ghost invariant = { λ p. IsPosting p.stream.items p.summary.items p.rows
+        × HasBounds (decoded_list p.stream.items) p.count p.first p.last };
 }
 
 impl Posting {

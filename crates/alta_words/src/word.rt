@@ -51,7 +51,8 @@ impl<'a> WordReader<'a> {
     ) -> WordReader<'a>
         requires posting { IsPosting stream summary.bytes summary.count }
         requires end { end ≡ pred_of (decoded_list stream) TOP }
-        ensures { IsNewReader IsSoundWord word_list word_list word_place word_left (decoded_list stream.entry) steps.old steps.new result }
+        ensures { IsNewReader IsSoundWord word_list word_list word_place word_left
+            (decoded_list stream.entry) steps.old steps.new result }
     {
         steps.tick();
         let reach = first_reach(&summary, end);
@@ -160,7 +161,8 @@ impl<'a> Reader for WordReader<'a> {
     fn next<L: Ledger>(&mut self, steps: &mut Steps<L>)
         requires sound { IsSoundWord self.old }
         requires below { word_place self.old < TOP }
-        ensures { Leaps IsSoundWord word_list word_place self.old self.new (first_from (word_list self.old) (word_place self.old + 1)) steps.old steps.new }
+        ensures { Leaps IsSoundWord word_list word_place self.old self.new
+            (first_from (word_list self.old) (word_place self.old + 1)) steps.old steps.new }
     {
         steps.tick();
         self.standing = behind(&self.stream, self.standing);
@@ -174,7 +176,8 @@ impl<'a> Reader for WordReader<'a> {
         requires sound { IsSoundWord self.old }
         requires above { word_place self.old < to }
         requires top { to ≤ TOP }
-        ensures { Leaps IsSoundWord word_list word_place self.old self.new (first_from (word_list self.old) to) steps.old steps.new }
+        ensures { Leaps IsSoundWord word_list word_place self.old self.new
+            (first_from (word_list self.old) to) steps.old steps.new }
     {
         steps.tick();
         self.go_seek(to);

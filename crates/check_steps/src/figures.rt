@@ -66,7 +66,8 @@ pub fn one_of_a_common_word<L: Ledger>(
 ) -> Result<Page, AllocError>
     ensures { IfOk result (λ page. (space : List Placed) → Shows space cursor.old.snapshot
         → IsOneFound (tree cursor.old.plan) → IsTrue page.more → lists cursor.old.snapshot.cuts ≡ 2
-        → locations_below (first_end (coming space (tree cursor.old.plan) cursor.old.snapshot cursor.new.from)) cursor.old.snapshot.cuts ≡ 3
+        → locations_below (first_end (coming space (tree cursor.old.plan) cursor.old.snapshot cursor.new.from))
+        cursor.old.snapshot.cuts ≡ 3
         → steps.new ≤ steps.old + 5) }
 {
     let page = cursor.fetch(alloc, 1, steps)?;
