@@ -161,11 +161,11 @@ class Case(unittest.TestCase):
         self.port = server.server_port
         return server
 
-    def ask(self, target, status=200, method="GET", host=None):
+    def ask(self, target, status=200, method="GET", host=None, sent=None):
         """The body of a reply, whose headers are kept; a page has only what pages may have."""
         connection = http.client.HTTPConnection("127.0.0.1", self.port, timeout=PATIENCE)
         with contextlib.closing(connection):
-            connection.request(method, target, headers={} if host is None else {"Host": host})
+            connection.request(method, target, sent, {} if host is None else {"Host": host})
             reply = connection.getresponse()
             body = reply.read().decode()
         self.headers = reply.headers
@@ -240,6 +240,8 @@ class Pages(Case):
         self.assertIn("no address", self.text(f"/?q={'a' * 20_000}", 400))
         for method in ("POST", "PUT", "DELETE", "OPTIONS"):
             self.ask("/", 501, method)
+        # The reply comes also where the client is still sending.
+        self.ask("/", 501, "POST", sent=b"a" * 8_000_000)
 
     def test_phrases(self):
         if PROGRAM is FAKE:

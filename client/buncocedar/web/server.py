@@ -215,8 +215,17 @@ class Handler(http.server.BaseHTTPRequestHandler):
             self.connection.shutdown(socket.SHUT_RD)
 
     def finish(self) -> None:
-        self.patience.cancel()
         super().finish()
+        if getattr(self, "command", None) not in ("GET", "HEAD"):
+            self.drop_body()
+        self.patience.cancel()
+
+    def drop_body(self) -> None:
+        """Reads what the client still sends: a connection that is closed before is reset, and the reply may be lost with it."""
+        with contextlib.suppress(OSError):
+            self.connection.shutdown(socket.SHUT_WR)
+            while self.connection.recv(PIECE):
+                pass
 
     def do_GET(self) -> None:
         self.patience.cancel()
