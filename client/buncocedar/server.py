@@ -50,6 +50,7 @@ from .beside import give_rights
 from .errors import Ended, Error, Refused
 from .copying import NO_COPY, write_packed
 from .fileformat import Unusable, level_count, read_root
+from .growth import Growth
 from .index import Index
 from .lines import LINE_LIMIT
 from .links import FIGURES_LINE, server_path
@@ -494,6 +495,8 @@ def serve(options):
     with contextlib.ExitStack() as stack:
         servers = [opened(stack, path, options) for path in paths]
         handle_signals(servers)
+        if folder is None:
+            Growth(options.index, say).put(0)
         say(f"listening for {len(paths)} shards in {folder}" if folder else f"listening at {server_path(options.index)}")
         run_all(servers)
     ends = [server.end for server in servers if server.end is not None]

@@ -16,10 +16,12 @@ from ..copying import put_copy
 from ..document import NoText
 from ..errors import Error
 from ..fileformat import LEVELS, Unusable
+from ..growth import SHARDS, Growth
 from ..index import Index
 from ..lasting import lasting
 from ..lines import add_line
 from ..shards import is_address, open_index
+from ..shards.names import MOST_SHARDS
 from ..terminal import waits, why, why_at
 from .engine import Import, Options
 from .interrupts import Interrupts
@@ -56,11 +58,13 @@ def bring_all(tool, path, sources, options=Options(), fast=False):
     try:
         if path == "-":
             return write_lines(log, documents_of(sources), options.whole)
-        if fast and (is_address(path) or os.path.islink(path) or os.path.exists(path) and os.path.getsize(path)):
+        if (fast or options.shards) and not is_to_be_made(path):
             log.say(f"{path} is there already, so it is added to where it stands")
-            fast = False
+            fast, options = False, options._replace(shards=None)
         with no_wider_than(below(source.path, Place(options.file)) for source, _ in sources):
-            return (bring_beside if fast else bring_into)(log, path, sources, options)
+            if options.shards:
+                make_shards(path, options.shards)
+            return (bring_beside if fast else bring_into)(log, path, sources, options, Growth(path, log.say))
     except (Error, OSError, Unusable) as error:
         log.say(f"stopped: {why(error)}" if path == "-" else why_at(path, error))
         return STOPPED
@@ -75,7 +79,21 @@ def documents_of(sources):
         yield from documents(Known()) if callable(documents) else documents
 
 
-def bring_into(log, path, sources, options):
+def is_to_be_made(path):
+    """Whether no index stands at a path, and nothing else but an empty file."""
+    return not (is_address(path) or os.path.islink(path) or os.path.exists(path) and os.path.getsize(path))
+
+
+def make_shards(path, count):
+    """Makes an index in so many files at such a path."""
+    from ..shards import make
+
+    with contextlib.suppress(FileNotFoundError):
+        os.remove(path)
+    make(path, count)
+
+
+def bring_into(log, path, sources, options, growth):
     with contextlib.suppress(OSError):
         tell_left(log, os.path.dirname(os.path.abspath(path)), PREFIX)
     statuses = []
@@ -96,7 +114,7 @@ def bring_into(log, path, sources, options):
             if len(sources) > 1:
                 log.say(f"{source.path}:")
             with lasting():
-                work = Import(index, stamps, source, options, log, makers)
+                work = Import(index, stamps, source, options, log, makers, growth)
             work.run(documents(work.known) if callable(documents) else documents, interrupts)
             statuses.append(ended(work.summary, index, interrupts, number == len(sources)))
             if statuses[-1] not in (0, SOME_REFUSED):
@@ -119,7 +137,7 @@ def ended(done, index, interrupts, is_last):
     return SOME_REFUSED if done.counts["refused"] else 0
 
 
-def bring_beside(log, path, sources, options):
+def bring_beside(log, path, sources, options, growth):
     """Makes the index in memory, where there are no syncs to wait for, and moves what came of it into place, without holes."""
     # Whether anything can be made at the place is known before all of the source is read.
     with making(os.path.dirname(os.path.abspath(path))):
@@ -127,7 +145,7 @@ def bring_beside(log, path, sources, options):
     folder = memory_folder()
     tell_left(log, folder, BESIDE)
     with making(folder, BESIDE) as beside:
-        status = bring_into(log, beside, sources, options)
+        status = bring_into(log, beside, sources, options, growth)
         try:
             with open(beside, "rb") as built:
                 with contextlib.suppress(FileNotFoundError):
@@ -208,7 +226,9 @@ def parser_of(tool, describe, *names):
         parser.add_argument(word.lower(), metavar=word, nargs="?" if "[" in name else "+" if ".." in name else None, help=about)
     parser.add_argument("--prune", action="store_true", help="delete what earlier runs brought in and is gone from the source")
     parser.add_argument("--moved-from", metavar="OLD", help="where the source stood when it was brought in before")
-    parser.add_argument("--fast", action="store_true", help="make a new index in memory, and move it into place at the end")
+    made = parser.add_mutually_exclusive_group()
+    made.add_argument("--fast", action="store_true", help="make a new index in memory, and move it into place at the end")
+    made.add_argument("--shards", metavar="N", type=number_of_files, help=f"make a new index as a folder of N files: {SHARDS} from 500 MB of text on")
     parser.add_argument("--whole", action="store_true", help="refuse what is too long for a line, in place of parts")
     parser.add_argument("--no-merge", action="store_true", help=f"do not join the levels when there are {LEVELS}")
     parser.add_argument("--verbose", action="store_true", help="list what is passed over, since it is no text")
@@ -223,7 +243,13 @@ def number_of_processes(text):
     return int(text)
 
 
+def number_of_files(text):
+    if not text.isdecimal() or not 1 <= int(text) <= MOST_SHARDS:
+        raise argparse.ArgumentTypeError(f"{text} is no number of files: 1 to {MOST_SHARDS:,}")
+    return int(text)
+
+
 def bring_as(tool, words, sources, file="", form="", may_pause=False):
     """Brings documents in as the words of a script say; the sources are as in `bring_all`, and the others as in `Options`."""
-    options = Options(words.whole, words.prune, not words.no_merge, words.verbose, words.wait, words.moved_from, file, may_pause, form, words.jobs)
+    options = Options(words.whole, words.prune, not words.no_merge, words.verbose, words.wait, words.moved_from, file, may_pause, form, words.jobs, words.shards)
     return bring_all(tool, words.index, sources, options, words.fast)

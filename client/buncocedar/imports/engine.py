@@ -28,17 +28,15 @@ from typing import NamedTuple, Optional
 from ..document import TEXT_LIMIT, NoText, Unchanged
 from ..errors import Error, Refused
 from ..fileformat import HALF, LEVELS, Unusable, level_count
-from ..index import Index
 from ..shards.errors import NotAnswered
 from .log import several
-from .making import Job, Makers
+from .making import Job
 from .naming import GONE, Naming, stands
 from .parts import size
 from .stamps import NOT_THERE, PART, Place, Stamp, below, is_numbered, name_of, part_name, part_of, place_of, stem_of
 from .summary import Summary
 
 EVERY_DOCUMENT = "NOT name:! OR name:!"
-PROPOSE_AT = 500_000_000  # bytes of text that one run brings in, from which on an index in shards is proposed
 RECORD = 17  # bytes that a line takes more in the journal, at most
 
 
@@ -91,7 +89,8 @@ class Options(NamedTuple):
 
     `file` is the one that is read, where all files are one source, and empty where that is no file. `may_pause` says that the source
     may give nothing for a while, as a pipe: what it gave before is sent meanwhile. `form` changes where the same source gives other
-    documents: what was brought in in another form is read again. `jobs` is how many processes read.
+    documents: what was brought in in another form is read again. `jobs` is how many processes read, and `shards` in how many files a
+    new index is made, where that is not one.
     """
 
     whole: bool = False
@@ -104,12 +103,13 @@ class Options(NamedTuple):
     may_pause: bool = False
     form: str = ""
     jobs: Optional[int] = None
+    shards: Optional[int] = None
 
 
 class Import:
     """One run over the documents of a source: which of them are sent, and what is kept of the replies."""
 
-    def __init__(self, index, stamps, source, options, log, makers=None):
+    def __init__(self, index, stamps, source, options, log, makers, growth):
         self.index = index
         self.stamps = stamps
         self.options = options
@@ -128,13 +128,13 @@ class Import:
             self.note_part(name)
         self.naming = Naming(stamps, self.live, self.source, self.sources, options.form)
         self.known = self.naming.known
-        self.makers = makers or Makers(1)
+        self.makers = makers
+        self.growth = growth
         self.chosen = {}  # of each name whose lines are being made its `Chosen` and its document
         self.anew = set()  # names whose documents were sent, or are to be
         self.repeated = set()  # places of documents that stand elsewhere, too
         self.summary = Summary(log, options.verbose, options.prune)
         self.sent = deque()
-        self.is_proposed = not isinstance(index, Index)  # or is one already
         self.levels = Levels(levels_of(index.path) + bool(self.live))
         self.look_for_losses()
 
@@ -265,21 +265,12 @@ class Import:
             sent.added.append((name, self.index.send_add(name, title, body)))
             length = size(title) + size(body)
             self.summary.bytes += length
-            self.propose_shards()
+            self.growth.put(length)
             self.levels.put(len("add \t\t") + len(name) + length)
             self.collect()
         for name in gone:
             sent.gone.append((name, self.index.send_delete(name)))
             self.levels.put(0)
-
-    def propose_shards(self):
-        """Says once in an import of much text that an index in shards takes it in less time."""
-        if self.summary.bytes >= PROPOSE_AT and not self.is_proposed:
-            self.is_proposed = True
-            self.log.say(
-                f"this is more than {PROPOSE_AT // 1_000_000:,} MB of text: an index in several files takes it in less time; "
-                "`bunco shards make FOLDER 8` makes one (docs/SCALE.md)"
-            )
 
     def standing(self, name, but=()):
         """The names under which the index has a document and its parts, but for some of them."""

@@ -8,7 +8,8 @@ the same on all. `stats INDEX` says what each shard has, where it stands, and wh
 `plan INDEX FOLDER ..` prints the moves that spread the shards evenly over the workers, or over these folders too. `move INDEX SHARD TO`
 moves a shard to another folder, or to the worker whose address is TO; its old file stays, with the ending `.released`.
 
-`split FOLDER NEW` makes a folder with twice as many shards. `copy INDEX NEW` copies each shard to the folder NEW of the machine where it
+`split INDEX NEW N` makes a folder NEW with N shards of an index in one file, and `split FOLDER NEW` one with twice as many: all that it
+had is in them, with its stamps, and it stays as it is. `copy INDEX NEW` copies each shard to the folder NEW of the machine where it
 stands, as for a backup. `check FOLDER` reads all of each shard, and says whether it is whole.
 
 The status is 0; 1 where a shard is missing or damaged; 2 for bad use; and 3 where it could not be done.
@@ -20,6 +21,7 @@ import re
 import sys
 
 from ..errors import Error
+from ..imports.log import several
 from ..imports.stampfile import stamps_path
 from . import is_address
 from .errors import Missing
@@ -46,7 +48,7 @@ def parser():
         prog="bunco shards", description=__doc__, formatter_class=argparse.RawDescriptionHelpFormatter
     )
     parser.add_argument("what", metavar="WHAT", choices=tuple(DONE), help="what is to be done")
-    parser.add_argument("index", metavar="INDEX", help="a folder of shards, or the address of a scheduler")
+    parser.add_argument("index", metavar="INDEX", help="a folder of shards, or the address of a scheduler; split: or one file")
     parser.add_argument("words", metavar="WORD", nargs="*", help="what it takes besides")
     parser.add_argument("--of", metavar="I/M", help="make: only the shards of the machine I of M, from 0")
     parser.add_argument("--name", metavar="NAME", default="", help="the name of the index: the same on all machines")
@@ -159,9 +161,14 @@ def move_between_folders(options, shard, target):
 
 
 def split_shards(options):
-    (new,) = words_of(options, 1)
-    documents = split(options.index, new)
-    say(f"{new}: {documents:,} documents in {settings_of(new).shards:,} shards; {options.index} stays as it is")
+    if os.path.isfile(options.index):
+        new, count = words_of(options, 2)
+        shards = numbered(count, "number of shards")
+    else:
+        (new,) = words_of(options, 1)
+        shards = 2 * settings_of(options.index).shards
+    documents = split(options.index, new, shards, patience=options.wait)
+    say(f"{new}: {several(documents)} in {shards:,} shards; {options.index} stays as it is")
     return 0
 
 

@@ -10,6 +10,7 @@ import argparse
 import sys
 
 from ..errors import Error, QueryFault, Refused, refusal_of
+from ..growth import Growth
 from ..replies import query_in
 from ..shards import Missing, NotAnswered
 from ..terminal import printable, quiet_end, why
@@ -50,10 +51,11 @@ def shown(text):
 
 
 class Shell:
-    def __init__(self, source, index, prompt):
+    def __init__(self, source, index, prompt, growth):
         self.source = source
         self.index = index
         self.prompt = prompt
+        self.growth = growth
 
     def answer(self, line):
         """Prints the reply to a line, and answers its status: 0, or that it was refused, or that a shard gave no answer."""
@@ -95,16 +97,19 @@ class Shell:
                 refusal = refusal_of(text, "", query_in(data, word))
                 raise refusal if isinstance(refusal, QueryFault) else Refused(text)
             print(shown(text))
+        if data.startswith(b"add "):
+            self.growth.put(len(data))
 
 
 def run(source, create, prompt):
     """Answers lines up to the end, and answers the status."""
     status = 0
     index = source.opened(create)
+    growth = Growth(source.path, say)
     try:
         for line in prompt.lines("alta> "):
             try:
-                said = Shell(source, index, prompt).answer(line)
+                said = Shell(source, index, prompt, growth).answer(line)
                 status = status if prompt.typed else max(status, said)
             except KeyboardInterrupt:
                 # A call that waits for the program is broken off with it.

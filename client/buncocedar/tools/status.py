@@ -18,6 +18,7 @@ import sys
 
 from ..errors import Error
 from ..fileformat import HEAD, Unusable, read_root
+from ..growth import Growth
 from ..holders import holder
 from ..imports.stampfile import stamps_path
 from ..imports.stamps import Records
@@ -159,6 +160,7 @@ def main(arguments=None):
         print(json.dumps({"index": path, **known}))
     else:
         print(*shown(path, known), sep="\n")
+    Growth(path, say).put(0)
     for why in map(str, faults):
         say(why if path in why else f"{path}: {why}")
     return STOPPED if faults or known.get("missing") else 0
