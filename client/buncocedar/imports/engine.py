@@ -17,8 +17,8 @@ with the last hundred words of the part before, so that a phrase over the border
 #
 # An import merges where there are sixteen levels and one more in the journal. From there on each full journal joins the two
 # oldest levels, and the oldest has all that was merged before, so each megabyte would write the whole of the old text again.
-# Merging sooner, as each 12,000,000 bytes, writes more: 6.2 bytes for a byte of text at 101 MB in place of 5.2
-# (docs/FIGURES.md, "A hundred megabytes"). Merging at a third of what there is was measured at 8.6 bytes at 88 MB. An import
+# Merging sooner, as each 12 MB, writes more: 6.3 bytes for a byte of text at 100 MB in place of 5.3 (bench/growth.py).
+# Merging at a third of what there is was measured at 8.6 bytes at 88 MB. An import
 # counts what goes into the journal, since the file does not say how full it is.
 
 import os
