@@ -71,7 +71,7 @@ class Index:
     def holds(self, what, lines, limit, reply):
         """Whether a run gives this reply within a limit."""
         status, said = self.run(lines, limit)
-        print(f"memory_limits: {what} within {limit * self.share / MIB:.1f} MiB: status {status}, {said!r}")
+        print(f"{what} within {limit * self.share / MIB:.1f} MiB: status {status}, {said!r}")
         return (status, said) == (0, reply)
 
     def try_limits(self, count):
