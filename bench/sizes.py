@@ -2,16 +2,19 @@
 """Measures how the costs of an index grow with its text, beside SQLite's full-text index and Xapian.
 
 usage: /usr/bin/python3 bench/sizes.py [--program PATH] [--before PATH ..] [--texts FOLDER ..] [--megabytes N,N,..] [--folder FOLDER]
-                                       [--fast] [--record FILE]
+                                       [--fast | --shards N] [--record FILE]
 
 Documents are cut from the text files below the FOLDERs (/usr/share/doc, /usr/share/man) as bench/bulk.py cuts them, up to so many megabytes of
-lines (10, 30, 100). They go into a new index of each program, with a `merge` wherever there are sixteen levels and one more in the journal and one
+lines (10, 30, 100). Where these texts end they come again, each with four words more that no other has. They go into a new index of each program, with a `merge` wherever there are sixteen levels and one more in the journal and one
 `flush` at the end, as the importing scripts do. With --fast there are adds alone. Then an opening with one `stats`, a `merge` of what is left, an
 opening of the one level, and a `dump` each run alone.
 
 The peers take the same documents and keep no texts: FTS5 in one transaction and with a commit for each document (left out with --fast), each
 optimized, its file behind a `vacuum`, and Xapian in one commit, compacted (left out with --fast, and where Debian's python3-xapian is not there, which is for
 /usr/bin/python3). They run in Python, which is in their times and peaks.
+
+With --shards the documents go into so many indexes, by their names as those of a folder of shards do, one index after the other. There is no `dump`
+and no peer then. Seconds and megabytes are those of all together, and memory that of the index that takes most.
 
 A small parent in C starts each, since a peak (`ru_maxrss`) begins with that of whoever starts a process; `gcc` compiles it. Prints a table in Markdown:
 megabytes of text (titles and bodies), of the index (of the program its level), and of the level's tables on the disk (head, documents and terms);
@@ -26,13 +29,14 @@ import sqlite3
 import subprocess
 import sys
 import tempfile
-from itertools import chain
+from itertools import chain, count
 from typing import NamedTuple, Optional
 
 TOP = os.path.dirname(os.path.dirname(os.path.abspath(__file__)))
 sys.path[:0] = [os.path.join(TOP, "tests"), os.path.join(TOP, "client")]
 
 import peer
+from buncocedar.shards import shard_of
 from bulk import FILL, lines_below, with_merges_of_levels
 from model.reading import read_roots
 from model.segments import read_head
@@ -119,10 +123,20 @@ class Measured:
         return Cost(microseconds / 1e6, kibibytes / 1024, (written - os.path.getsize(self.output)) / self.text)
 
 
+def texts(folders):
+    """The texts of the documents below these folders, with their titles; once they end each of them again, with four words of its own."""
+    known = []
+    for line in chain.from_iterable(map(lines_below, folders)):
+        known.append(line.partition(b"\t")[2])
+        yield known[-1]
+    for turn in count(1) if known else ():
+        for number, text in enumerate(known):
+            yield text.rstrip(b"\n") + b"".join(b" x%d%c%d" % (turn, letter, number) for letter in b"abcd") + b"\n"
+
+
 def documents(folders):
-    """An `add` line for each document below these folders, numbered through."""
-    for number, line in enumerate(chain.from_iterable(map(lines_below, folders)), 1):
-        yield b"add d%d\t" % number + line.partition(b"\t")[2]
+    """An `add` line for each of these texts, numbered through."""
+    return (b"add d%d\t" % number + text for number, text in enumerate(texts(folders), 1))
 
 
 def within(lines, most):
@@ -136,12 +150,12 @@ def within(lines, most):
 
 
 def level_of(path):
-    """The megabytes of the one level of an index, and those of its tables."""
+    """The megabytes of the one level of an index, and those of its tables, as `Costs` has them."""
     with open(path, "rb") as file:
         content = file.read()
     ((place, length),) = read_roots(content)[1].levels
     _, _, rows, terms = read_head(content[place : place + length])
-    return length / 1e6, (32 + rows + terms) / 1e6
+    return {"size": length / 1e6, "tables": (32 + rows + terms) / 1e6}
 
 
 def file_of(folder, name, lines):
@@ -152,17 +166,33 @@ def file_of(folder, name, lines):
     return path
 
 
-def of_program(program, folder, lines, measured, is_fast):
-    """What an index of these lines costs by the program."""
+def of_program(program, folder, lines, measured, is_fast, steps=STEPS):
+    """What the steps of an index of these lines cost by the program."""
     path = os.path.join(folder, "index")
     run = [program, path, "run"]
     given = file_of(folder, "given", lines if is_fast else chain(with_merges_of_levels(lines), [b"flush\n"]))
     asked = {word: file_of(folder, word, [f"{word}\n".encode()]) for word in ("stats", "merge", "dump")}
     subprocess.run([program, path, "init"], check=True)
-    steps = dict(zip(STEPS, (measured.cost(run, source) for source in (given, asked["stats"], asked["merge"], asked["stats"], asked["dump"]))))
-    costs = Costs(*level_of(path), steps)
+    sources = (given, asked["stats"], asked["merge"], asked["stats"], asked["dump"])
+    costs = Costs(steps={step: measured.cost(run, source) for step, source in zip(steps, sources)}, **level_of(path))
     os.remove(path)
     return costs
+
+
+def of_shards(program, folder, lines, measured, shards):
+    """What so many indexes cost, into which these lines go by the names of their documents."""
+    parts = [[] for _ in range(shards)]
+    for line in lines:
+        parts[shard_of(line[4:].partition(b"\t")[0].decode(), shards)].append(line)
+    found = [of_program(program, folder, part, measured, False, STEPS[:-1]) for part in parts]
+    steps = {step: together([costs.steps[step] for costs in found]) for step in STEPS[:-1]}
+    return Costs(sum(costs.size for costs in found), sum(costs.tables for costs in found), steps)
+
+
+def together(costs):
+    """The cost of a step of several indexes, one after the other."""
+    seconds, memory, written = zip(*costs)
+    return Cost(sum(seconds), max(memory), sum(written))
 
 
 def of_peer(name, folder, source, measured):
@@ -220,7 +250,9 @@ def main():
     parser.add_argument("--texts", nargs="+", default=["/usr/share/doc", "/usr/share/man"])
     parser.add_argument("--megabytes", type=lambda text: [float(word) for word in text.split(",")], default=[10, 30, 100])
     parser.add_argument("--folder", default="/dev/shm" if os.access("/dev/shm", os.W_OK) else ".")
-    parser.add_argument("--fast", action="store_true")
+    kinds = parser.add_mutually_exclusive_group()
+    kinds.add_argument("--fast", action="store_true")
+    kinds.add_argument("--shards", type=int)
     parser.add_argument("--record", metavar="FILE")
     options = parser.parse_args()
     programs = {OURS: options.program, **{f"{OURS}, before{n or ''}": path for n, path in enumerate(options.before)}}
@@ -233,9 +265,12 @@ def main():
         costs = grown.setdefault(round(text / 1e6, 1), {})
         with tempfile.TemporaryDirectory(dir=options.folder) as folder:
             measured = Measured(folder, text)
-            source = file_of(folder, "lines", part)
-            wanted = {name: (of_program, program, folder, part, measured, options.fast) for name, program in programs.items()}
-            wanted.update({PEERS[name]: (of_peer, name, folder, source, measured) for name in peers_wanted(options.fast)})
+            if options.shards:
+                wanted = {name: (of_shards, program, folder, part, measured, options.shards) for name, program in programs.items()}
+            else:
+                wanted = {name: (of_program, program, folder, part, measured, options.fast) for name, program in programs.items()}
+                source = file_of(folder, "lines", part)
+                wanted.update({PEERS[name]: (of_peer, name, folder, source, measured) for name in peers_wanted(options.fast)})
             for name, (measure, *given) in wanted.items():
                 costs[name] = measure(*given)
                 print("| " + " | ".join([f"{text / 1e6:.1f}", f"{len(part):,}", name, *costs[name].cells()]) + " |", flush=True)
