@@ -19,7 +19,7 @@ import re
 import subprocess
 import sys
 
-MOST = 61
+MOST = 28
 
 TRIED = re.compile(r"(?:rt: )?must-fail (\w+)/([\w.-]+)\.edit: (.*)")
 KEPT = re.compile(r"(?:rt: )?\w+: (\d+) of its \d+ must-fail edits were tried by an earlier run on this machine")

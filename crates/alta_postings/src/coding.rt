@@ -32,10 +32,10 @@ pub fn encode(alloc: Global, locs: &[u64]) -> Result<Coded, AllocError>
     })
 }
 
-/// Appends the stream of a list that rises strictly, from 1 to below `TOP`, and leaves in `places` where each block
-/// begins, in bytes from where the stream does. It makes one pass over the locations. After `Err` what was appended is
-/// not said.
-pub fn put_stream(out: &mut Vec<u8>, places: &mut Vec<u64>, locs: &[u64]) -> Result<(), AllocError>
+// Appends the stream of a list that rises strictly, from 1 to below `TOP`, and leaves in `places` where each block
+// begins, in bytes from where the stream does. It makes one pass over the locations. After `Err` what was appended is
+// not said.
+fn put_stream(out: &mut Vec<u8>, places: &mut Vec<u64>, locs: &[u64]) -> Result<(), AllocError>
     requires { IsRising locs.now }
     ensures bytes { OnOk result (out.new.items ≡ out.old.items ++ stream_bytes 0 locs.now) }
     ensures places { OnOk result (HasPlaces locs.now (length locs.now) places.new.items) }

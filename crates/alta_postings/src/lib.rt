@@ -17,7 +17,7 @@ mod summary;
 
 pub use block::{BlockSpan, fill_block, scan_block};
 pub use building::build;
-pub use coding::{Coded, encode, mark, put_stream};
+pub use coding::{Coded, encode, mark};
 pub use fault::{StreamCause, StreamFault};
 pub use places::Places;
 pub use step::read_location;

@@ -37,13 +37,9 @@ impl<'a> Stream<'a> {
         let mut at = 0;
         let mut before: u64 = 0;
         'whole: while at < bytes.len() {
-            match scan_block(bytes, at, before) {
-                Ok(span) => {
-                    at = span.next;
-                    before = span.last;
-                }
-                Err(fault) => return Err(fault),
-            }
+            let span = scan_block(bytes, at, before)?;
+            at = span.next;
+            before = span.last;
         }
         Ok(Stream::of(bytes))
     }

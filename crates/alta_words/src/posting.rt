@@ -48,10 +48,8 @@ impl Posting {
         ensures never { (b : ℕ) → IsPosting stream.items summary.items b → IsOk result }
         ensures fault { IfErr result (λ fault. IsPostingFault stream.items summary.items fault) }
     {
-        match check(&stream, &summary) {
-            Ok(bounds) => Ok(Posting::of(stream, summary, bounds)),
-            Err(fault) => Err(fault),
-        }
+        let bounds = check(&stream, &summary)?;
+        Ok(Posting::of(stream, summary, bounds))
     }
 
     /// A stream and its summary that were tested, with the bounds that were found. It reads neither.

@@ -20,5 +20,6 @@ returns-clause-found c =
 pub returns-clause-never : goal.returns-clause-never
 returns-clause-never c = λ xs s. (refl, (spelling_reads c.args.bytes.now xs s).1)
 
-pub returns-in-Err-clause-never : goal.returns-in-Err-clause-never
-returns-in-Err-clause-never c = λ xs s. absurd (no_list c.args.bytes.now xs c.in-Err.fault (c.whole.invariant.same ∙ c.in-Err.ensures.fault) s)
+pub returns-in_err-span-clause-never : goal.returns-in_err-span-clause-never
+returns-in_err-span-clause-never c =
+    λ xs s. absurd (no_list c.args.bytes.now xs c.in_err-span.field-0.0 (c.whole.invariant.same ∙ c.in_err-span.ensures.fault) s)
