@@ -4,8 +4,8 @@ ghost use Rattle.std.specs.Prelude.{◌≡◌, ◌≤◌, drop, length};
 // So many bytes at least are given back at a time.
 const LEAST: usize = 65_536;
 
-/// Gives back the memory of bytes in front of a place where they are a fourth of all or more, and answers where those behind it
-/// begin then. At most three bytes move for each that is passed, and the bytes take a third more memory than those behind the place,
+/// Gives back the memory of bytes in front of a place where they are an eighth of all or more, and answers where those behind it
+/// begin then. At most seven bytes move for each that is passed, and the bytes take a seventh more memory than those behind the place,
 /// or 64 KiB.
 pub fn give_back(bytes: &mut Vec<u8>, place: usize) -> usize
     requires { place ≤ length bytes.old.items }
@@ -13,7 +13,7 @@ pub fn give_back(bytes: &mut Vec<u8>, place: usize) -> usize
     ensures within { result ≤ length bytes.new.items }
 {
     let left = bytes.len() - place;
-    if place < LEAST || place < left / 3 {
+    if place < LEAST || place < left / 7 {
         return place;
     }
     bytes.copy_within(place.., 0);

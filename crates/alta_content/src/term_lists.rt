@@ -80,6 +80,11 @@ impl TermLists {
         })
     }
 
+    /// How many bytes the rows of the terms that are left have.
+    pub fn row_room(&self) -> usize {
+        self.rows.len() - self.row
+    }
+
     /// How many bytes the gaps of the locations that are left have.
     pub fn room(&self) -> usize
         ensures { result ≡ length (flat_map list_gaps self.now) }

@@ -1,6 +1,6 @@
 // The segment of a content.
-// `build` uses its content up: the memory of its lists is given back as they are spelled, and head and tables come in front of the
-// streams where these lie. So a flush or a merge holds about as much as the segment has.
+// `build` uses its content up: the rows are dropped once they are spelled, the memory of the lists is given back as they are spelled,
+// and head and tables come in front of the streams where these lie. So a flush or a merge holds about as much as the segment has.
 ghost use Rattle.std.specs.Prelude.{◌≡◌, ℕ, List, ◌++◌, ◌∷◌, [], ◌<◌, ◌≤◌, length, slice_index_or, OnOk, IfOk, flat_map};
 ghost use Rattle.std.specs.List.{All};
 ghost use Rattle.alta_codec.specs.Rising.{IsRising};
@@ -8,12 +8,13 @@ ghost use Rattle.alta_table.specs.Documents.{documents_bytes};
 ghost use Rattle.alta_table.specs.Terms.{entry_bytes, terms_bytes};
 ghost use Rattle.alta_content.specs.Lists.{IsContent, terms_of};
 ghost use Rattle.alta_content.specs.Packed.{AreGaps};
+ghost use Rattle.alta_content.specs.Rows.{AreDocuments};
 ghost use Rattle.alta_content.specs.declared.content.Content.{Content};
 ghost use Rattle.alta_level.specs.Segments.{list_bytes, row_of, rows_of, segment_bytes};
 
 use crate::writing::put_list;
 use alta_codec::Len;
-use alta_content::{Content, PackedList, TermLists};
+use alta_content::{Content, DocRows, PackedList, TermLists};
 use alta_postings::Row;
 use alta_table::{Head, put_documents, put_head, put_term};
 use std::alloc::{AllocError, Global};
@@ -96,18 +97,28 @@ fn assemble(
     Ok(bytes)
 }
 
+// The document part of rows, which are used up.
+fn spell_documents(alloc: Global, documents: DocRows) -> Result<Vec<u8>, AllocError>
+    requires { AreDocuments documents }
+    ensures { IfOk result (λ bytes. bytes.items ≡ documents_bytes documents) }
+{
+    let mut bytes = Vec::new(alloc);
+    put_documents(&mut bytes, documents.as_slice())?;
+    Ok(bytes)
+}
+
 /// The segment of a content: its head, its documents, its terms, then the stream and the summary of each term. It makes
-/// one pass over the lists, whose gaps are copied. The content is used up: the memory of its lists is given back as they are spelled.
+/// one pass over the lists, whose gaps are copied. The content is used up: its rows are dropped before its lists are spelled, and the
+/// memory of these is given back as they are.
 pub fn build(alloc: Global, content: Content) -> Result<Vec<u8>, AllocError>
     requires { IsContent content }
     ensures { IfOk result (λ bytes. bytes.items ≡ segment_bytes content) }
 {
     let rows = content.documents.len();
     let lists = content.lists.len();
-    let mut documents = Vec::new(alloc);
-    put_documents(&mut documents, content.documents.as_slice())?;
-    let mut terms = Vec::new(alloc);
-    let mut streams = Vec::new(alloc);
+    let documents = spell_documents(alloc, content.documents)?;
+    let mut terms = Vec::with_capacity(alloc, content.lists.row_room())?;
+    let mut streams = Vec::with_capacity(alloc, content.lists.room())?;
     put_lists(alloc, &mut terms, &mut streams, content.lists)?;
     assemble(rows, lists, &documents, &terms, streams)
 }
