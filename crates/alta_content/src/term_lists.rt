@@ -66,14 +66,15 @@ impl Len for TermLists {
 }
 
 impl TermLists {
-    /// No terms, with room for locations whose gaps have so many bytes.
-    pub fn with_room(alloc: Global, bytes: usize) -> Result<TermLists, AllocError>
+    /// No terms, with room for rows of so many bytes, and for locations whose gaps have so many.
+    pub fn with_room(alloc: Global, rows: usize, gaps: usize) -> Result<TermLists, AllocError>
         ensures { IfOk result (λ lists. lists ≡ []) }
     {
-        let gaps = Vec::with_capacity(alloc, bytes)?;
+        let rows = Vec::with_capacity(alloc, rows)?;
+        let gaps = Vec::with_capacity(alloc, gaps)?;
         Ok(TermLists {
             count: 0,
-            rows: Vec::new(alloc),
+            rows,
             row: 0,
             gaps,
             gap: 0,

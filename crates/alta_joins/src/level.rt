@@ -23,6 +23,9 @@ use alta_level::{StoredList, check_list, segments_read_back};
 use alta_table::{LevelFault, OpenLevel, TermCursor};
 use std::alloc::Global;
 
+// A packed row of a term takes some sixteen bytes: the term's own, and three numbers.
+const ROW_BYTES: usize = 16;
+
 /// Reads the content of a level. Its streams and summaries stand one behind the other, and are read by one read of the disk. The
 /// rows are those of the tables that were opened, and are copied. Each list is tested as [`alta_level::check_list`] tests it, and its
 /// stream is copied. The memory of what is read is given back as the lists are copied, so the content takes little more beside it.
@@ -119,7 +122,8 @@ fn lists_in(
     ensures first { IfDamaged result (IsFaultInLists level.now.documents level.now.terms bytes.items place) }
     ensures lean { result ≢ Err DiskFault }
 {
-    let mut lists = TermLists::with_room(alloc, bytes.len())?;
+    let rows = level.terms().saturating_mul(ROW_BYTES);
+    let mut lists = TermLists::with_room(alloc, rows, bytes.len())?;
     let mut rest = bytes;
     let mut front = 0;
     let mut at = place;

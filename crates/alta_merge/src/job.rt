@@ -62,13 +62,15 @@ fn take_apart(alloc: Global, contents: Vec<Content>) -> Result<Parts, AllocError
     Ok(Parts { rows, rests })
 }
 
-// The room that a join of lists takes at most.
-fn room_of(rests: &[TermLists]) -> usize {
-    let mut room: usize = 0;
+// The room that the rows and the gaps of a join of lists take at most.
+fn room_of(rests: &[TermLists]) -> (usize, usize) {
+    let mut rows: usize = 0;
+    let mut gaps: usize = 0;
     for rest in rests {
-        room = room.saturating_add(rest.room());
+        rows = rows.saturating_add(rest.row_room());
+        gaps = gaps.saturating_add(rest.room());
     }
-    room
+    (rows, gaps)
 }
 
 impl Job {
@@ -95,9 +97,10 @@ impl Job {
         let spans = spans_of(alloc, &parts.rows, deleted)?;
         let mut rows = parts.rows;
         keep_rows(&mut rows, &spans);
+        let (row_room, gap_room) = room_of(&parts.rests);
         Ok(Job {
             rows: DocRows::from_vec(rows),
-            made: TermLists::with_room(alloc, room_of(&parts.rests))?,
+            made: TermLists::with_room(alloc, row_room, gap_room)?,
             rests: parts.rests,
             spans,
             room: Room {
