@@ -3,9 +3,8 @@
 
 Each limit is on the address space of the run (`ulimit -v`), and is said by what the run reads: an opening may take a fixed part and a multiple
 of the bytes of the tables (head, documents and terms), and a merge a fixed part and a multiple of the bytes of the level that it makes. Each
-limit of an opening is 1.2 to 1.25 times what the program of version 0.4.0 takes, and each of a merge 1.22 to 1.27 times what the present one
-takes. The text is made from a seed: 24,000 documents of some 540 bytes, in each of which eight words are its own. It is opened and merged at its
-half and whole, so that neither part alone decides.
+limit is 1.15 to 1.27 times what a build without proof takes now. The text is made from a seed: 24,000 documents of some 540 bytes, in each of
+which eight words are its own. It is opened and merged at its half and whole, so that neither part alone decides.
 
 With --share each limit is this share of what it is. With 0.75 the one of 0.4.0 keeps none. The one of 0.2.0 keeps none as they stand, and the one
 of 0.3.0 no limit of an opening.
@@ -30,7 +29,7 @@ NO_MEMORY = 5  # the status of a run that wants memory
 MIB = 1 << 20
 
 # A fixed part, and a multiple of the bytes that are read or made.
-OPENING = (4 * MIB, 3.5)
+OPENING = (4 * MIB, 3.2)
 MERGE = (5 * MIB, 5.2)
 
 

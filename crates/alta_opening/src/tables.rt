@@ -25,8 +25,8 @@ fn outer(fault: LevelFault) -> LoadFault
     }
 }
 
-/// Head and tables of a level: its head is read by one call, its documents and terms by a second. Where the disk tells its
-/// content, the extent lies on it.
+/// Head and tables of a level: its head is read by one call, its documents and terms by a second. The level keeps the bytes as they
+/// were read. Where the disk tells its content, the extent lies on it.
 pub(crate) fn read_tables<D: Disk>(
     alloc: Global,
     disk: &mut D,
@@ -49,7 +49,7 @@ pub(crate) fn read_tables<D: Disk>(
     };
     let behind = sizes.document_bytes + sizes.term_bytes;
     let bytes = read_behind(alloc, disk, &front, extent.place + HEAD as u64, behind)?;
-    match OpenLevel::open(alloc, &bytes, extent.place, extent.bytes) {
+    match OpenLevel::keep(alloc, bytes, extent.place, extent.bytes) {
         Ok(table) => Ok(table),
         Err(fault) => Err(outer(fault)),
     }

@@ -1,6 +1,6 @@
 -- What is read goes by head, documents and terms alone, which stand in front.
 use Rattle.std.proofs.Common.{◌≡◌, ℕ, ◌+◌, ◌-◌, ◌<◌, ◌≤◌, ◌^◌, min, List, ◌++◌, length, take, drop, Ok, sym, ap, ◌∙◌, arith}
-use Rattle.std.proofs.lemmas.List.{take-take, drop-take}
+use Rattle.std.proofs.lemmas.List.{take-take, take_all, drop-drop, drop-take, length-drop}
 use Rattle.alta_format.specs.Format.{AreBytes, part}
 use Rattle.alta_format.proofs.FormatLaws.{done, AreBytes-take, part_found, part_spelled}
 use Rattle.alta_content.specs.declared.document.DocRow.{DocRow}
@@ -42,3 +42,8 @@ tables_same bytes place total n h read le =
     to_parts (take n bytes) place total h (head_same bytes place total n (omega (arith, le)) ∙ read)
     ∙ ap (λ (l : List ℕ). by_parts place total h l (term_part (take n bytes) h)) first ∙ ap (by_parts place total h (document_part bytes h)) second
     ∙ sym (to_parts bytes place total h read)
+
+-- where the tables are all of the bytes, the terms are all that stands behind the documents
+pub part_is : (bytes : List ℕ) (h : Head) → length bytes ≡ 32 + h.document_bytes + h.term_bytes → term_part bytes h ≡ drop (32 + h.document_bytes) bytes
+part_is bytes h whole =
+    take_all h.term_bytes (drop h.document_bytes (drop 32 bytes)) (omega (arith, whole, length-drop 32 bytes, length-drop h.document_bytes (drop 32 bytes))) ∙ drop-drop h.document_bytes 32 bytes

@@ -1,11 +1,12 @@
 // The tables of a segment, opened.
 ghost use Rattle.std.specs.Prelude.{◌≡◌, ℕ, ◌+◌, ◌-◌, ◌<◌, ◌≤◌, ◌^◌, length, take, Some, Ok, IfOk, IfSome, MatchOption, slice_get};
+ghost use Rattle.alta_format.specs.Format.{AreBytes, part};
 ghost use Rattle.std.specs.List.{list_any, starts_with};
 ghost use Rattle.alta_table.specs.Answers.{Answers, IfDamaged, IsDamaged, IsFound};
 ghost use Rattle.alta_codec.specs.Rising.{IsRising};
 ghost use Rattle.alta_content.specs.Rows.{ends_of, start};
-ghost use Rattle.alta_table.specs.Terms.{AreTerms, data_bytes, is_end, terms_of};
-ghost use Rattle.alta_table.specs.Tables.{AreTables, IsDamage, KeepRules, Tables, read_head, tables_bytes, tables_of, total_of};
+ghost use Rattle.alta_table.specs.Terms.{AreTerms, data_bytes, is_end, terms_format, terms_of};
+ghost use Rattle.alta_table.specs.Tables.{AreTables, IsDamage, KeepRules, Tables, read_head, tables_bytes, tables_of, term_part, total_of};
 ghost use Rattle.alta_table.specs.Marks.{IsHeld, rows_in};
 ghost use Rattle.alta_table.specs.Places.{name_place, name_places, row_at, stream_extent, summary_extent, tables_in};
 ghost use Rattle.alta_table.specs.Search.{IsPrefixRange};
@@ -17,6 +18,7 @@ use crate::fault::LevelFault;
 use crate::heading::head;
 use crate::parts::Parts;
 use crate::search::{find_in, prefixed_in};
+use crate::sizes::Head;
 use crate::terms::{HeldTerms, read_terms};
 use alta_codec::Extent;
 use alta_content::{DocRow, LevelRows};
@@ -62,24 +64,42 @@ fn shared(alloc: Global, rows: Vec<DocRow>) -> Result<Rc<LevelRows>, AllocError>
     }
 }
 
+// The terms behind the documents of tables with this head, and how many bytes no stream or summary takes of so much room.
+fn terms_behind(
+    alloc: Global,
+    head: Head,
+    room: u64,
+    tables: Vec<u8>,
+    place: u64,
+) -> Result<(HeldTerms, u64), LevelFault>
+    requires whole { length tables.items ≡ 32 + head.document_bytes + head.term_bytes }
+    requires below { place + length tables.items < 2 ^ 64 }
+    ensures exact { Answers (λ x. (rows_in x.0, x.1)) result
+        (part (terms_format head.terms room) (term_part tables.items head) (place + 32 + head.document_bytes)) }
+    ensures held { IfOk result (λ x. IsHeld x.0 x.1) }
+    ensures room { IfOk result (λ x. x.0.room ≡ room) }
+{
+    let from = 32 + head.document_bytes as usize;
+    let part = place + 32 + head.document_bytes;
+    read_terms(alloc, head.terms, room, tables, from, part)
+}
+
 #[tactic(auto, unfolding(crate::specs::Tables::tables_of))]
-fn opened(alloc: Global, bytes: &[u8], place: u64, total: u64) -> Result<Parts, LevelFault>
+fn opened(alloc: Global, bytes: Vec<u8>, place: u64, total: u64) -> Result<Parts, LevelFault>
     requires below { place + total < 2 ^ 64 }
-    requires whole { (h : Head) → read_head bytes.now place total ≡ Ok h
-        → length bytes.now ≡ 32 + h.document_bytes + h.term_bytes }
-    ensures exact { Answers tables_in result (tables_of bytes.now place total) }
+    requires whole { (h : Head) → read_head bytes.items place total ≡ Ok h
+        → length bytes.items ≡ 32 + h.document_bytes + h.term_bytes }
+    ensures exact { Answers tables_in result (tables_of bytes.items place total) }
     ensures names { IfOk result (λ p. p.names.items ≡ name_places (place + 32) start p.documents.value) }
     ensures held { IfOk result (λ p. IsHeld p.terms 0) }
     ensures end { IfOk result (λ p. p.end ≡ place + total) }
 {
-    let head = head(bytes, place, total)?;
+    let head = head(&bytes, place, total)?;
     let (_front, tables) = bytes.split_at(32);
-    let (first, behind_documents) = tables.split_at(head.document_bytes as usize);
-    let (second, _none) = behind_documents.split_at(head.term_bytes as usize);
+    let (first, _terms) = tables.split_at(head.document_bytes as usize);
     let documents = read_documents(alloc, head.documents, first, place + 32)?;
     let room = total - 32 - head.document_bytes - head.term_bytes;
-    let second_place = place + 32 + head.document_bytes;
-    let (terms, left) = read_terms(alloc, head.terms, room, second, second_place)?;
+    let (terms, left) = terms_behind(alloc, head, room, bytes, place)?;
     if left > 0 {
         return Err(LevelFault::Damaged(place + (total - left)));
     }
@@ -98,22 +118,42 @@ fn opened(alloc: Global, bytes: &[u8], place: u64, total: u64) -> Result<Parts, 
     })
 }
 
-fn table_of(alloc: Global, bytes: &[u8], place: u64, total: u64) -> Result<OpenLevel, LevelFault>
+// Bytes are below 256.
+fn are_bytes(bytes: &[u8])
+    ensures { AreBytes bytes.now }
+{}
+
+fn table_of(alloc: Global, bytes: Vec<u8>, place: u64, total: u64) -> Result<OpenLevel, LevelFault>
+    requires below { place + total < 2 ^ 64 }
+    requires whole { (h : Head) → read_head bytes.items place total ≡ Ok h
+        → length bytes.items ≡ 32 + h.document_bytes + h.term_bytes }
+    ensures exact { Answers (λ x. x) result (tables_of bytes.items place total) }
+    ensures fits { AreBytes bytes.items }
+{
+    are_bytes(&bytes);
+    let parts = opened(alloc, bytes, place, total)?;
+    Ok(OpenLevel { parts })
+}
+
+// The same of a copy.
+fn copy_of(alloc: Global, bytes: &[u8], place: u64, total: u64) -> Result<OpenLevel, LevelFault>
     requires below { place + total < 2 ^ 64 }
     requires whole { (h : Head) → read_head bytes.now place total ≡ Ok h
         → length bytes.now ≡ 32 + h.document_bytes + h.term_bytes }
     ensures { Answers (λ x. x) result (tables_of bytes.now place total) }
 {
-    let parts = opened(alloc, bytes, place, total)?;
-    Ok(OpenLevel { parts })
+    match Vec::from_slice(alloc, bytes) {
+        Ok(copy) => table_of(alloc, copy, place, total),
+        Err(_) => Err(LevelFault::Memory),
+    }
 }
 
 impl OpenLevel {
     /// Reads head, documents and terms of a segment of `total` bytes that begins at a place of the disk. `bytes` holds
     /// exactly these, as [`head`] gives their lengths. `Damaged` has the place of the first field that breaks a rule:
     /// of the head, then of the documents, then of the terms, then the first byte behind the last stream and summary,
-    /// and last the head's number of terms where the term `D` is missing. It makes one pass over the bytes, and takes
-    /// memory in proportion to them.
+    /// and last the head's number of terms where the term `D` is missing. It makes one pass over the bytes, and keeps
+    /// a copy of them.
     pub fn open(
         alloc: Global,
         bytes: &[u8],
@@ -134,6 +174,22 @@ impl OpenLevel {
         ensures broken { (p : ℕ) → IsDamage bytes.now place total p → IsDamaged result p }
         // The same in one fact.
         ensures exact { Answers (λ x. x) result (tables_of bytes.now place total) }
+    {
+        copy_of(alloc, bytes, place, total)
+    }
+
+    /// The same of bytes that it keeps, without a copy.
+    pub fn keep(
+        alloc: Global,
+        bytes: Vec<u8>,
+        place: u64,
+        total: u64,
+    ) -> Result<OpenLevel, LevelFault>
+        requires below { place + total < 2 ^ 64 }
+        requires whole { (h : Head) → read_head bytes.items place total ≡ Ok h
+            → length bytes.items ≡ 32 + h.document_bytes + h.term_bytes }
+        ensures found { IfOk result (AreTables bytes.items place total) }
+        ensures exact { Answers (λ x. x) result (tables_of bytes.items place total) }
     {
         table_of(alloc, bytes, place, total)
     }

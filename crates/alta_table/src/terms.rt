@@ -1,7 +1,7 @@
 // The term part of a segment, as it is held: as it stands on the disk, with marks.
-ghost use Rattle.std.specs.Prelude.{◌≡◌, ◌⊎◌, ℕ, ◌+◌, ◌*◌, ◌/◌, ◌<◌, ◌≤◌, ◌^◌, [], length, slice_index_or, IfOk};
+ghost use Rattle.std.specs.Prelude.{◌≡◌, ◌⊎◌, ℕ, ◌+◌, ◌-◌, ◌*◌, ◌/◌, ◌<◌, ◌≤◌, ◌^◌, Ok, [], drop, length, slice_index_or, IfOk};
 ghost use Rattle.alta_format.specs.Gives.{Gives};
-ghost use Rattle.alta_format.specs.Format.{read, part};
+ghost use Rattle.alta_format.specs.Format.{AreBytes, read, part};
 ghost use Rattle.alta_table.specs.Answers.{Answers};
 ghost use Rattle.alta_table.specs.Marks.{AreMarked, IsHeld, StandsBefore, rows_found, rows_in};
 ghost use Rattle.alta_table.specs.Terms.{terms_format};
@@ -47,14 +47,64 @@ fn marks_of(alloc: Global, count: u64, room: u64, bytes: &[u8]) -> Result<(Marks
     Ok((marks, walk.left))
 }
 
-// The same, with the bytes.
-fn held(alloc: Global, count: u64, room: u64, bytes: &[u8]) -> Result<(HeldTerms, u64), ReadFault>
-    ensures gives { Gives (λ x. ((rows_in x.0, x.1), [])) result (read (terms_format count room) bytes.now) }
+// The marks of a term part that begins at a place of the disk, and how much of the room no stream or summary takes.
+fn read_marks(
+    alloc: Global,
+    count: u64,
+    room: u64,
+    bytes: &[u8],
+    place: u64,
+) -> Result<(Marks, u64), LevelFault>
+    requires { place + length bytes.now < 2 ^ 64 }
+    ensures exact { Answers (λ x. (rows_found (read (terms_format count room) bytes.now), x.1)) result
+        (part (terms_format count room) bytes.now place) }
+    ensures reads { IfOk result (λ x. read (terms_format count room) bytes.now
+        ≡ Ok ((rows_found (read (terms_format count room) bytes.now), x.1), [])) }
+    ensures marked { IfOk result (λ x. AreMarked count room bytes.now x.0.heads.items x.0.marks.items) }
+    ensures fits { AreBytes bytes.now }
+{
+    match marks_of(alloc, count, room, bytes) {
+        Ok(found) => Ok(found),
+        Err(ReadFault::Memory) => Err(LevelFault::Memory),
+        Err(ReadFault::Broken(left)) => {
+            Err(LevelFault::Damaged(place + (bytes.len() - left) as u64))
+        }
+    }
+}
+
+// What stands behind the first `from` bytes, in the memory of all.
+fn behind(bytes: Vec<u8>, from: usize) -> Vec<u8>
+    requires { from ≤ length bytes.items }
+    ensures { result.items ≡ drop from bytes.items }
+{
+    let mut bytes = bytes;
+    let left = bytes.len() - from;
+    bytes.copy_within(from.., 0);
+    bytes.truncate(left);
+    bytes.shrink_to_fit();
+    bytes
+}
+
+/// The rows of the term part that ends these tables, and begins behind their first `from` bytes and at a place of the disk. And how
+/// many bytes no stream or summary takes of the `room` bytes that stand behind the tables. The memory of what
+/// stands in front of the part is given back.
+pub fn read_terms(
+    alloc: Global,
+    count: u64,
+    room: u64,
+    tables: Vec<u8>,
+    from: usize,
+    place: u64,
+) -> Result<(HeldTerms, u64), LevelFault>
+    requires inside { from ≤ length tables.items }
+    requires below { place + (length tables.items - from) < 2 ^ 64 }
+    ensures exact { Answers (λ x. (rows_in x.0, x.1)) result
+        (part (terms_format count room) (drop from tables.items) place) }
     ensures held { IfOk result (λ x. IsHeld x.0 x.1) }
     ensures room { IfOk result (λ x. x.0.room ≡ room) }
 {
-    let (marks, left) = marks_of(alloc, count, room, bytes)?;
-    let bytes = Vec::from_slice(alloc, bytes)?;
+    let (marks, left) = read_marks(alloc, count, room, &tables[from..], place)?;
+    let bytes = behind(tables, from);
     let terms = HeldTerms {
         count: count as usize,
         room,
@@ -62,29 +112,6 @@ fn held(alloc: Global, count: u64, room: u64, bytes: &[u8]) -> Result<(HeldTerms
         marks,
     };
     Ok((terms, left))
-}
-
-/// The rows of a term part that begins at a place of the disk, and how many bytes no stream or summary takes of the `room` bytes that
-/// stand behind the tables.
-pub fn read_terms(
-    alloc: Global,
-    count: u64,
-    room: u64,
-    bytes: &[u8],
-    place: u64,
-) -> Result<(HeldTerms, u64), LevelFault>
-    requires { place + length bytes.now < 2 ^ 64 }
-    ensures exact { Answers (λ x. (rows_in x.0, x.1)) result (part (terms_format count room) bytes.now place) }
-    ensures held { IfOk result (λ x. IsHeld x.0 x.1) }
-    ensures room { IfOk result (λ x. x.0.room ≡ room) }
-{
-    match held(alloc, count, room, bytes) {
-        Ok(found) => Ok(found),
-        Err(ReadFault::Memory) => Err(LevelFault::Memory),
-        Err(ReadFault::Broken(left)) => {
-            Err(LevelFault::Damaged(place + (bytes.len() - left) as u64))
-        }
-    }
 }
 
 impl HeldTerms {
