@@ -1,17 +1,18 @@
 -- Entries as they are applied, each by itself and one after the other.
 use Rattle.std.proofs.Common.{◌≡◌, Bool, true, false, ℕ, ◌+◌, ◌<◌, List, [], ◌∷◌, ◌++◌, length, get_or, take, drop, append_assoc, refl, sym, ◌∙◌, ap, subst, take-append-drop}
-use Rattle.std.specs.Prelude.{Result, Ok, Err}
+use Rattle.std.specs.Prelude.{Result, Ok, Err, OnOk}
 use Rattle.std.proofs.lemmas.Bool.{false≢true, true≢false}
 use Rattle.std.proofs.lemmas.List.{take_more, drop_more, map-append}
 use Rattle.alta_journal.specs.declared.entry.Entry.{Entry}
-use Rattle.alta_journal.specs.declared.entry.Entry.TheVariants.{Delete}
+use Rattle.alta_journal.specs.declared.entry.Entry.TheVariants.{Add, Delete}
 use Rattle.alta_journal.specs.declared.placed.Placed.{Placed}
 use Rattle.alta_content.specs.Rows.{ends_among}
 use Rattle.alta_content.specs.declared.document.DocRow.{DocRow}
-use Rattle.alta_machine.specs.Changes.{has_number, without}
+use Rattle.alta_machine.specs.Changes.{has_number, with_added, without}
+use Rattle.alta_machine.specs.declared.build.MetaFault.{MetaFault}
 use Rattle.alta_machine.specs.declared.document.State.{State}
 use Rattle.alta_root.specs.declared.root.Root.{Root}
-use Rattle.alta_catalog.specs.Applying.{Applies}
+use Rattle.alta_catalog.specs.Applying.{Applies, IsEntered}
 use Rattle.alta_catalog.specs.Knowing.{Follows, Knows, KnowsBy, gone_of, levels_of}
 use Rattle.alta_memlevel.specs.Added.{Added}
 use Rattle.alta_catalog.specs.declared.catalog.Catalog.{Catalog}
@@ -56,6 +57,19 @@ deleted number old new there found missing unchanged still levels follows = reco
   levels = levels;
   follows = follows;
 }
+
+-- ---- one that is allowed
+
+pub add_entered : (name title body : List ℕ) (old new : Catalog) (result : Result (Unit {0}) MetaFault)
+    → OnOk result ((s : State) → (knows : Knows old s) → KnowsBy new knows.olds (with_added name title body s)) → levels_of new ≡ levels_of old → gone_of new ≡ gone_of old
+    → ((root : Root) (entries : List Entry) → Follows old root entries → OnOk result (Follows new root (entries ++ Add name title body ∷ []))) → IsEntered (Add name title body) old new result
+add_entered name title body old new (Ok x) added levels gone follows = record {
+  knows = added;
+  still = λ row was. subst (λ (ends : List ℕ). ends_among ends row ≡ true) (sym gone) was;
+  levels = levels;
+  follows = follows;
+}
+add_entered name title body old new (Err fault) added levels gone follows = record { knows = λ s knows. tt; still = tt; levels = levels; follows = follows }
 
 -- ---- one behind the other
 

@@ -1,5 +1,5 @@
 -- What an entry makes of a catalog.
-use Rattle.std.specs.Prelude.{◌≡◌, Bool, true, false, List, [], ◌∷◌, ◌++◌, Result, IfOk}
+use Rattle.std.specs.Prelude.{◌≡◌, Bool, true, false, List, [], ◌∷◌, ◌++◌, Result, IfOk, OnOk}
 use Rattle.alta_content.specs.Rows.{ends_among}
 use Rattle.alta_content.specs.declared.document.DocRow.{DocRow}
 use Rattle.alta_journal.specs.declared.entry.Entry.{Entry}
@@ -22,3 +22,12 @@ pub record Applies (entry : Entry) (old new : Catalog) (result : Result Bool Met
   pub levels : levels_of new ≡ levels_of old
   pub follows : (root : Root) (entries : List Entry) → Follows old root entries
       → IfOk result (λ allowed. allowed ≡ true → Follows new root (entries ++ entry ∷ []))
+
+-- The entry, which was allowed, was applied.
+pub record IsEntered (entry : Entry) (old new : Catalog) (result : Result (Unit {0}) MetaFault) : Type 0 where
+  pub knows : (s : State) → (knows : Knows old s) → OnOk result (KnowsBy new knows.olds (after_entry s entry))
+  -- what was gone is gone still, and the levels stay
+  pub still : OnOk result ((row : DocRow) → ends_among (gone_of old) row ≡ true → ends_among (gone_of new) row ≡ true)
+  pub levels : levels_of new ≡ levels_of old
+  pub follows : (root : Root) (entries : List Entry) → Follows old root entries
+      → OnOk result (Follows new root (entries ++ entry ∷ []))

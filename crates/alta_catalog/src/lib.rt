@@ -23,4 +23,4 @@ pub use laws::{
 };
 pub use lists::{NameRow, Names};
 pub use replacing::PreparedLevels;
-pub use replaying::{apply_entries, apply_entry};
+pub use replaying::{apply_entries, enter_allowed};

@@ -1,19 +1,20 @@
 // The documents that the entries of a journal leave.
 ghost use Rattle.std.specs.Prelude.{◌≡◌, ◌⊎◌, ◌+◌, ◌++◌, ◌<◌, ℕ, List, Err, IfOk, IfErr, OnOk, All};
-ghost use Rattle.alta_journal.specs.Entry.{KeepTexts, MayBeRecorded};
+ghost use Rattle.alta_journal.specs.Entry.{KeepTexts, KeepsRules, MayBeRecorded};
+ghost use Rattle.alta_journal.specs.Lent.{entry_of};
 ghost use Rattle.alta_journal.specs.declared.entry.Entry.{Entry};
 ghost use Rattle.alta_journal.specs.declared.entry.Entry.TheVariants.{Add, Replace};
 ghost use Rattle.alta_machine.specs.declared.document.State.{State};
-ghost use Rattle.alta_meaning.specs.Entries.{AllowsAll, after_entries, entries_in, IsRefusedAt};
+ghost use Rattle.alta_meaning.specs.Entries.{Allows, AllowsAll, after_entries, entries_in, IsRefusedAt};
 ghost use Rattle.alta_machine.specs.Changes.{has_named};
 ghost use Rattle.alta_root.specs.declared.root.Root.{Root};
-ghost use Rattle.alta_catalog.specs.Applying.{Applies};
+ghost use Rattle.alta_catalog.specs.Applying.{Applies, IsEntered};
 ghost use Rattle.alta_catalog.specs.Knowing.{Follows, Knows, KnowsBy, gone_of, levels_of};
 ghost use Rattle.alta_catalog.specs.declared.fault.CatalogFault.TheVariants.{Memory, Damaged};
 
 use crate::CatalogFault;
 use crate::catalog::Catalog;
-use alta_journal::{Entry, Placed};
+use alta_journal::{Entry, LentEntry, Placed};
 use alta_machine::MetaFault;
 use std::alloc::Global;
 
@@ -62,13 +63,9 @@ fn payload_place(placed: &Placed) -> u64
     placed.place.saturating_add(PAYLOAD)
 }
 
-/// Applies an entry, if it is allowed here, and answers whether it is. Where it is not, nothing has changed. Documents that are gone stay
-/// gone.
-///
-/// # Errors
-///
-/// `Memory` where memory is wanting: the catalog may no longer be used.
-pub fn apply_entry(alloc: Global, catalog: &mut Catalog, entry: &Entry) -> Result<bool, MetaFault>
+// Applies an entry, if it is allowed here, and answers whether it is. Where it is not, nothing has changed. Documents that are gone stay
+// gone.
+fn apply_entry(alloc: Global, catalog: &mut Catalog, entry: &Entry) -> Result<bool, MetaFault>
     requires knows { (s : State) × Knows catalog.old s }
     requires sound { (version : ℕ) × MayBeRecorded version entry.now }
     ensures { Applies entry.now catalog.old catalog.new result }
@@ -94,6 +91,52 @@ pub fn apply_entry(alloc: Global, catalog: &mut Catalog, entry: &Entry) -> Resul
     }
 }
 
+/// Applies an entry that is allowed here. No name is looked up, and documents that are gone stay gone.
+///
+/// # Errors
+///
+/// `Memory` where memory is wanting: the catalog may no longer be used.
+pub fn enter_allowed(
+    alloc: Global,
+    catalog: &mut Catalog,
+    entry: &LentEntry<'_>,
+) -> Result<(), MetaFault>
+    requires knows { (s : State) × Knows catalog.old s }
+    requires rules { KeepsRules (entry_of entry.now) }
+    requires allowed { (s : State) → Knows catalog.old s → Allows s (entry_of entry.now) }
+    ensures { IsEntered (entry_of entry.now) catalog.old catalog.new result }
+{
+    match *entry {
+        LentEntry::Add { name, title, body } => catalog.add(alloc, name, title, body),
+        LentEntry::Delete { number } => Ok(catalog.remove(number)?),
+        LentEntry::Replace {
+            number,
+            name,
+            title,
+            body,
+        } => put_again(alloc, catalog, number, name, title, body),
+    }
+}
+
+// Deletes the document with this number and this name, and adds another of that name, for which a number is left.
+fn put_again(
+    alloc: Global,
+    catalog: &mut Catalog,
+    number: u64,
+    name: &str,
+    title: &str,
+    body: &str,
+) -> Result<(), MetaFault>
+    requires knows { (s : State) × Knows catalog.old s }
+    requires sound { KeepTexts name.now title.now body.now }
+    requires allowed { (s : State) → Knows catalog.old s → Allows s (Replace number name.now title.now body.now) }
+    ensures { IsEntered (Replace number name.now title.now body.now) catalog.old catalog.new result }
+{
+    catalog.remove(number)?;
+    catalog.add(alloc, name, title, body)?;
+    Ok(())
+}
+
 // Deletes the document with this number, if it has this name and a number is left, and adds another of that name.
 fn replace(
     alloc: Global,
@@ -113,8 +156,7 @@ fn replace(
     if !has_name_with(catalog, name, number) {
         return Ok(false);
     }
-    catalog.remove(number)?;
-    catalog.add(alloc, name, title, body)?;
+    put_again(alloc, catalog, number, name, title, body)?;
     Ok(true)
 }
 

@@ -1,4 +1,6 @@
 // What a record says.
+ghost use Rattle.std.specs.Prelude.{◌≡◌};
+ghost use Rattle.alta_journal.specs.Lent.{entry_of};
 
 use alta_codec::Text;
 
@@ -22,4 +24,53 @@ pub enum Entry {
         title: Text,
         body: Text,
     },
+}
+
+/// An entry whose texts are lent: what is written and applied, with no copy of a text.
+#[derive(Drop)]
+pub enum LentEntry<'a> {
+    /// As [`Entry::Add`].
+    Add {
+        name: &'a str,
+        title: &'a str,
+        body: &'a str,
+    },
+    /// As [`Entry::Delete`].
+    Delete {
+        number: u64,
+    },
+    /// As [`Entry::Replace`].
+    Replace {
+        number: u64,
+        name: &'a str,
+        title: &'a str,
+        body: &'a str,
+    },
+}
+
+impl Entry {
+    /// The entry, with its texts lent.
+    pub fn lent(&self) -> LentEntry<'_>
+        ensures { entry_of result ≡ self.now }
+    {
+        match self {
+            Entry::Add { name, title, body } => LentEntry::Add {
+                name: name.as_str(),
+                title: title.as_str(),
+                body: body.as_str(),
+            },
+            Entry::Delete { number } => LentEntry::Delete { number: *number },
+            Entry::Replace {
+                number,
+                name,
+                title,
+                body,
+            } => LentEntry::Replace {
+                number: *number,
+                name: name.as_str(),
+                title: title.as_str(),
+                body: body.as_str(),
+            },
+        }
+    }
 }

@@ -23,7 +23,7 @@ pub(crate) fn entry_from(
     let Some(entry) = newest_from(alloc, payload)? else {
         return Ok(None);
     };
-    if version == 1 && !is_old(&entry) {
+    if version == 1 && !is_old(&entry.lent()) {
         return Ok(None);
     }
     Ok(Some(entry))

@@ -13,7 +13,7 @@ mod replaying;
 mod tail;
 
 pub use appending::{JournalFault, append, append_ahead, close_half};
-pub use entry::Entry;
+pub use entry::{Entry, LentEntry};
 pub use laws::{a_half_is_read_in_one_way, a_half_is_read_or_broken};
 pub use placed::Placed;
 pub use places::{PAYLOAD_BYTES, TEXTS_BYTES};

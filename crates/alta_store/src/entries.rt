@@ -5,6 +5,7 @@ ghost use Rattle.alta_meaning.specs.Entries.{Allows, IsDocument};
 ghost use Rattle.alta_machine.specs.Changes.{has_name, number_of, with_added, with_deleted, with_replaced};
 ghost use Rattle.alta_meaning.specs.Work.{enters};
 ghost use Rattle.alta_journal.specs.Entry.{IsTyped, KeepsRules};
+ghost use Rattle.alta_journal.specs.Lent.{entry_of};
 ghost use Rattle.alta_journal.specs.declared.entry.Entry.TheVariants.{Add, Delete, Replace};
 ghost use Rattle.alta_machine.specs.declared.document.State.{State};
 ghost use Rattle.alta_store.specs.Agreement.{Agrees, Knows, is_sound};
@@ -13,10 +14,10 @@ ghost use Rattle.alta_store.specs.declared.fault.StoreFault.TheVariants.{Taken, 
 
 use crate::guess::{Coming, Guess};
 use crate::{Store, StoreFault};
-use alta_catalog::apply_entry;
+use alta_catalog::enter_allowed;
 use alta_codec::Text;
 use alta_disk::Disk;
-use alta_journal::{Entry, JournalFault, Ready, append_ahead, is_old, ready};
+use alta_journal::{JournalFault, LentEntry, Ready, append_ahead, is_old, ready};
 use std::alloc::{AllocError, Global};
 
 impl Store {
@@ -85,10 +86,7 @@ impl Store {
             (with_added name.now title.now body.now) NoRefusal (D.state disk.old)
             (D.state disk.new) self.old self.new result }
     {
-        match entry_of_add(self.alloc, name, title, body) {
-            Ok(entry) => self.enter(disk, &entry),
-            Err(_) => Err(StoreFault::Memory),
-        }
+        self.enter(disk, &LentEntry::Add { name, title, body })
     }
 
     /// Puts a document in place of the live one with its name, by one record in the journal, and answers the number of that one and its own.
@@ -158,10 +156,15 @@ impl Store {
             (with_replaced name.now title.now body.now) NoRefusal (D.state disk.old)
             (D.state disk.new) self.old self.new result }
     {
-        match entry_of_replace(self.alloc, number, name, title, body) {
-            Ok(entry) => self.enter(disk, &entry),
-            Err(_) => Err(StoreFault::Memory),
-        }
+        self.enter(
+            disk,
+            &LentEntry::Replace {
+                number,
+                name,
+                title,
+                body,
+            },
+        )
     }
 
     /// Deletes the live document with this name, by one record in the journal, and answers its number. Where the record does not fit in
@@ -209,7 +212,7 @@ impl Store {
         ensures { Obeys D.tells (enters (Delete number)) (with_deleted name.now) NoRefusal (D.state disk.old)
             (D.state disk.new) self.old self.new result }
     {
-        self.enter(disk, &Entry::Delete { number })
+        self.enter(disk, &LentEntry::Delete { number })
     }
 
     /// Makes ready what the call behind the next one will add, by [`add`](Store::add) or [`replace`](Store::replace), so that the next
@@ -241,9 +244,14 @@ impl Store {
         let ready = match number {
             Some(number) => ready(
                 self.alloc,
-                &entry_of_replace(self.alloc, number, name, title, body)?,
+                &LentEntry::Replace {
+                    number,
+                    name,
+                    title,
+                    body,
+                },
             )?,
-            None => ready(self.alloc, &entry_of_add(self.alloc, name, title, body)?)?,
+            None => ready(self.alloc, &LentEntry::Add { name, title, body })?,
         };
         Ok(Coming {
             name: Text::of(self.alloc, name)?,
@@ -255,14 +263,14 @@ impl Store {
     // ---- entries
 
     // Enters an entry that the documents allow, behind a switch of the root where the journal has no room for it.
-    fn enter<D: Disk>(&mut self, disk: &mut D, entry: &Entry) -> Result<(), StoreFault>
-        requires rules { KeepsRules entry.now }
+    fn enter<D: Disk>(&mut self, disk: &mut D, entry: &LentEntry<'_>) -> Result<(), StoreFault>
+        requires rules { KeepsRules (entry_of entry.now) }
         requires agrees { Agrees D.tells (D.state disk.old) self.old }
-        requires allowed { (s : State) → Knows self.old s → Allows s entry.now }
+        requires allowed { (s : State) → Knows self.old s → Allows s (entry_of entry.now) }
         requires limit { HEAD_BYTES ≤ (D.state disk.old).limit }
 
-        ensures { (step : State → State) → IsStepFrom entry.now step self.old
-            → Obeys D.tells (enters entry.now) step NoRefusal (D.state disk.old)
+        ensures { (step : State → State) → IsStepFrom (entry_of entry.now) step self.old
+            → Obeys D.tells (enters (entry_of entry.now)) step NoRefusal (D.state disk.old)
             (D.state disk.new) self.old self.new result }
     {
         let Ok(ready) = ready(self.alloc, entry) else {
@@ -278,16 +286,17 @@ impl Store {
     fn make_room<D: Disk>(
         &mut self,
         disk: &mut D,
-        entry: &Entry,
+        entry: &LentEntry<'_>,
         ready: &Ready,
     ) -> Result<(), StoreFault>
-        requires rules { KeepsRules entry.now }
-        requires ready { ready.now.entry ≡ entry.now }
+        requires rules { KeepsRules (entry_of entry.now) }
+        requires ready { ready.now.entry ≡ entry_of entry.now }
         requires agrees { Agrees D.tells (D.state disk.old) self.old }
         requires limit { HEAD_BYTES ≤ (D.state disk.old).limit }
 
-        ensures makes { MakesRoom D.tells entry.now (D.state disk.old) (D.state disk.new) self.old self.new result }
-        ensures room { OnOk result (needs_room self.new entry.now ≡ false) }
+        ensures makes { MakesRoom D.tells (entry_of entry.now) (D.state disk.old)
+            (D.state disk.new) self.old self.new result }
+        ensures room { OnOk result (needs_room self.new (entry_of entry.now) ≡ false) }
     {
         if !self.needs_room(entry, ready) {
             return Ok(());
@@ -296,10 +305,10 @@ impl Store {
     }
 
     // Whether the journal has no room for an entry: the root's version can't have its record, or it does not fit.
-    fn needs_room(&self, entry: &Entry, ready: &Ready) -> bool
-        requires rules { KeepsRules entry.now }
-        requires ready { ready.now.entry ≡ entry.now }
-        ensures { result ≡ needs_room self.now entry.now }
+    fn needs_room(&self, entry: &LentEntry<'_>, ready: &Ready) -> bool
+        requires rules { KeepsRules (entry_of entry.now) }
+        requires ready { ready.now.entry ≡ entry_of entry.now }
+        ensures { result ≡ needs_room self.now (entry_of entry.now) }
     {
         let is_new = self.root.version == 1 && !is_old(entry);
         is_new || ready.bytes().len() as u64 > self.tail.room()
@@ -309,27 +318,25 @@ impl Store {
     fn commit<D: Disk>(
         &mut self,
         disk: &mut D,
-        entry: &Entry,
+        entry: &LentEntry<'_>,
         ready: &Ready,
     ) -> Result<(), StoreFault>
-        requires rules { KeepsRules entry.now }
-        requires typed { IsTyped entry.now }
-        requires ready { ready.now.entry ≡ entry.now }
+        requires rules { KeepsRules (entry_of entry.now) }
+        requires typed { IsTyped (entry_of entry.now) }
+        requires ready { ready.now.entry ≡ entry_of entry.now }
         requires agrees { Agrees D.tells (D.state disk.old) self.old }
-        requires allowed { (s : State) → Knows self.old s → Allows s entry.now }
-        requires room { needs_room self.old entry.now ≡ false }
+        requires allowed { (s : State) → Knows self.old s → Allows s (entry_of entry.now) }
+        requires room { needs_room self.old (entry_of entry.now) ≡ false }
         requires limit { HEAD_BYTES ≤ (D.state disk.old).limit }
 
-        ensures enters { (step : State → State) → IsStepOf entry.now step self.old
-            → Enters D.tells entry.now step (D.state disk.old) (D.state disk.new) self.old self.new result }
+        ensures enters { (step : State → State) → IsStepOf (entry_of entry.now) step self.old
+            → Enters D.tells (entry_of entry.now) step (D.state disk.old) (D.state disk.new) self.old self.new result }
         ensures sound { is_sound self.new ≡ is_sound self.old }
         ensures slot { OnOk result (self.new.slot ≡ self.old.slot) }
     {
-        match apply_entry(self.alloc, &mut self.catalog, entry) {
-            Ok(true) => {}
-            Ok(false) => unreachable!(),
-            Err(_) => return Err(StoreFault::Memory),
-        }
+        let Ok(()) = enter_allowed(self.alloc, &mut self.catalog, entry) else {
+            return Err(StoreFault::Memory);
+        };
         let ahead = self.ahead.take();
         let next = self.guess.take(self.root.version, &self.catalog);
         match append_ahead(disk, &mut self.tail, ready, ahead, next) {
@@ -341,33 +348,4 @@ impl Store {
             Err(JournalFault::Disk) => Err(StoreFault::Disk),
         }
     }
-}
-
-// The entry of a document that is added.
-fn entry_of_add(alloc: Global, name: &str, title: &str, body: &str) -> Result<Entry, AllocError>
-    ensures { IfOk result (λ entry. entry ≡ Add name.now title.now body.now) }
-{
-    Ok(Entry::Add {
-        name: Text::of(alloc, name)?,
-        title: Text::of(alloc, title)?,
-        body: Text::of(alloc, body)?,
-    })
-}
-
-// The entry of a document that takes the place of the one with this number.
-fn entry_of_replace(
-    alloc: Global,
-    number: u64,
-    name: &str,
-    title: &str,
-    body: &str,
-) -> Result<Entry, AllocError>
-    ensures { IfOk result (λ entry. entry ≡ Replace number name.now title.now body.now) }
-{
-    Ok(Entry::Replace {
-        number,
-        name: Text::of(alloc, name)?,
-        title: Text::of(alloc, title)?,
-        body: Text::of(alloc, body)?,
-    })
 }

@@ -1,14 +1,7 @@
-use Rattle.std.proofs.Common.{◌≡◌, ◌<◌, ℕ, List, true, refl, sym, subst, ◌∙◌, arith}
+use Rattle.std.proofs.Common.{refl, sym, ◌∙◌}
 use Rattle.std.proofs.lemmas.Bool.{false≢true}
-use Rattle.alta_meaning.proofs.KeptStates.{by_number}
-use Rattle.alta_meaning.proofs.OrderLaws.{is_state}
-use Rattle.alta_meaning.proofs.StateLaws.{named_free}
-use Rattle.alta_machine.specs.Changes.{has_named, without}
-use Rattle.alta_content.specs.Rows.{ends_among}
 use Rattle.alta_journal.specs.declared.entry.Entry.TheVariants.{Replace}
 use Rattle.alta_catalog.proofs.EntryLaws.{applied, not_applied}
-use Rattle.alta_catalog.proofs.FollowLaws.{follows_replaced}
-use Rattle.alta_catalog.proofs.KnownLaws.{name_alike}
 use Rattle.alta_catalog.proofs.replaying.replace.Goals as goal
 
 pub returns-then-not-has_room : goal.returns-then-not-has_room
@@ -19,46 +12,11 @@ pub returns-then-not-has_name_with : goal.returns-then-not-has_name_with
 returns-then-not-has_name_with c =
     not_applied (Replace c.args.number c.args.name.now c.args.title.now c.args.body.now) c.args.catalog.now (λ s knows both. false≢true (c.if-not-has_name_with.ensures s knows ∙ both.0))
 
-pub remove-requires : goal.remove-requires
-remove-requires c =
-    let (s, knows) = c.requires.knows in
-    (s, knows, by_number c.args.name.now c.args.number s.documents (sym (c.if-not-has_name_with.ensures s knows)))
+pub put_again-requires-clause-allowed : goal.put_again-requires-clause-allowed
+put_again-requires-clause-allowed c = λ s knows. (sym (c.if-not-has_name_with.ensures s knows), (c.if-not-has_room.ensures s knows).0 refl)
 
--- the name is free in each state that the catalog knows then
-pub add-requires-clause-free : goal.add-requires-clause-free
-add-requires-clause-free c = λ other known.
-    let (s, knows) = c.requires.knows in
-    let named : has_named c.args.name.now c.args.number s ≡ true = sym (c.if-not-has_name_with.ensures s knows) in
-    let then = (c.in_ok-remove.ensures.removed s knows).0 in
-    name_alike _ other (without c.args.number s) known then c.args.name.now
-    ∙ named_free c.args.name.now c.args.number s (is_state s knows.notes.ordered (omega (arith, knows.next, knows.from.0, knows.notes.next))) named
-
-pub add-requires-clause-left : goal.add-requires-clause-left
-add-requires-clause-left c = λ other known.
-    let (s, knows) = c.requires.knows in
-    let then = (c.in_ok-remove.ensures.removed s knows).0 in
-    let left : s.next < 4294967296 = (c.if-not-has_room.ensures s knows).0 refl in
-    omega (arith, left, known.notes.next, then.notes.next)
-
-pub add-requires-clause-knows : goal.add-requires-clause-knows
-add-requires-clause-knows c =
-    let (s, knows) = c.requires.knows in (without c.args.number s, (c.in_ok-remove.ensures.removed s knows).0)
-
-pub add-requires-clause-short : goal.add-requires-clause-short
-add-requires-clause-short c = omega (arith, c.requires.sound.4)
-
--- what was gone is gone still, since an add changes nothing of that
 pub returns : goal.returns
 returns c =
-    applied (Replace c.args.number c.args.name.now c.args.title.now c.args.body.now) c.args.catalog.now c.add.new.self
-    (λ s knows.
-    let named : has_named c.args.name.now c.args.number s ≡ true = sym (c.if-not-has_name_with.ensures s knows) in
-    let left : s.next < 4294967296 = (c.if-not-has_room.ensures s knows).0 refl in
-    let then = c.in_ok-remove.ensures.removed s knows in
-    let more = c.in_ok-add.ensures.added (without c.args.number s) then.0 in
-    ((named, left), (more.0, more.1 ∙ then.1)))
-    (λ row gone. subst (λ (ends : List ℕ). ends_among ends row ≡ true) (sym c.in_ok-add.ensures.gone) (c.in_ok-remove.ensures.still row gone))
-    (c.in_ok-add.ensures.levels ∙ c.in_ok-remove.ensures.levels)
-    (λ root entries follows.
-    follows_replaced _ root entries c.args.number c.args.name.now c.args.title.now c.args.body.now
-    (c.in_ok-add.ensures.follows root _ (c.in_ok-remove.ensures.follows root entries follows)))
+    let entered = c.in_ok-put_again.ensures in
+    applied (Replace c.args.number c.args.name.now c.args.title.now c.args.body.now) c.args.catalog.now c.put_again.new.catalog
+    (λ s knows. ((sym (c.if-not-has_name_with.ensures s knows), (c.if-not-has_room.ensures s knows).0 refl), entered.knows s knows)) entered.still entered.levels entered.follows

@@ -1,6 +1,7 @@
 use Rattle.std.proofs.Common.{◌≡◌, List, ℕ, refl, sym, ◌∙◌, ap, subst, arith}
 use Rattle.std.proofs.lemmas.Grind.{common_steps}
 use Rattle.alta_journal.specs.Entry.{four_bytes, KeepsRules, IsTyped, MayBeRecorded}
+use Rattle.alta_journal.specs.Lent.{entry_of}
 use Rattle.alta_journal.specs.Reading.{entry_of_body}
 use Rattle.alta_journal.specs.Record.{body_of}
 use Rattle.alta_journal.specs.declared.entry.Entry.{Entry}
@@ -18,19 +19,19 @@ spells_back : (bytes : List ℕ) (entry : Entry) → KeepsRules entry → IsType
 spells_back bytes entry keeps typed made = made ∙ ap body_of (sym (read_back bytes entry keeps typed made))
 
 -- all was written
-made : (c : goal.In_ok-push) → c.push.new.self.items ≡ body_of c.args.entry.now
+made : (c : goal.In_ok-push) → c.push.new.self.items ≡ body_of (entry_of c.args.entry.now)
 unfolding four_bytes
 made c = grind (arith, common_steps)
 
 pub of_bytes-requires-clause-sound : goal.of_bytes-requires-clause-sound
-of_bytes-requires-clause-sound c = sound_back _ c.args.entry.now c.requires c.payload_len-payload.ensures.typed (made c)
+of_bytes-requires-clause-sound c = sound_back _ (entry_of c.args.entry.now) c.requires c.payload_len-payload.ensures.typed (made c)
 
 pub of_bytes-requires-clause-spells : goal.of_bytes-requires-clause-spells
-of_bytes-requires-clause-spells c = spells_back _ c.args.entry.now c.requires c.payload_len-payload.ensures.typed (made c)
+of_bytes-requires-clause-spells c = spells_back _ (entry_of c.args.entry.now) c.requires c.payload_len-payload.ensures.typed (made c)
 
 pub returns : goal.returns
 unfolding four_bytes
 returns c =
-    let made : c.push.new.self.items ≡ body_of c.args.entry.now = grind (arith, common_steps) in
-    let back : entry_of_body c.push.new.self.items ≡ c.args.entry.now = read_back _ c.args.entry.now c.requires c.payload_len-payload.ensures.typed made in
+    let made : c.push.new.self.items ≡ body_of (entry_of c.args.entry.now) = grind (arith, common_steps) in
+    let back : entry_of_body c.push.new.self.items ≡ (entry_of c.args.entry.now) = read_back _ (entry_of c.args.entry.now) c.requires c.payload_len-payload.ensures.typed made in
     c.of_bytes.ensures ∙ rw (back, made) refl

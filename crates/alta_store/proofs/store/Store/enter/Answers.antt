@@ -1,4 +1,5 @@
 use Rattle.std.proofs.Common.{arith}
+use Rattle.alta_journal.specs.Lent.{entry_of}
 use Rattle.alta_store.specs.Calls.{NoRefusal}
 use Rattle.alta_store.proofs.Changing.{changes_failed, changes_then, enters_finds, obeys_entry}
 use Rattle.alta_store.proofs.Naming.{allowed_alike}
@@ -10,14 +11,14 @@ commit-requires-clause-agrees g c = c.in-Ok-make_room.ensures.makes.agrees
 pub commit-requires-clause-allowed : goal.commit-requires-clause-allowed
 commit-requires-clause-allowed g c = λ s knows.
     let intact = c.requires.agrees.intact in
-    allowed_alike c.make_room.new.self intact.state (c.in-Ok-make_room.ensures.makes.knows intact.state intact.knows) s knows c.args.entry.now (c.requires.allowed intact.state intact.knows)
+    allowed_alike c.make_room.new.self intact.state (c.in-Ok-make_room.ensures.makes.knows intact.state intact.knows) s knows (entry_of c.args.entry.now) (c.requires.allowed intact.state intact.knows)
 
 pub commit-requires-clause-limit : goal.commit-requires-clause-limit
 commit-requires-clause-limit g c = omega (arith, c.in-Ok-make_room.ensures.makes.costs.limit, c.requires.limit)
 
 pub returns-in-Ok-make_room : goal.returns-in-Ok-make_room
 returns-in-Ok-make_room g c = λ step steps.
-    let entry = c.args.entry.now in
+    let entry = entry_of c.args.entry.now in
     let intact = c.requires.agrees.intact in
     let makes = c.in-Ok-make_room.ensures.makes in
     obeys_entry g.D.Disk.tells entry c.requires.rules step (g.D.Disk.state c.args.disk.now) (g.D.Disk.state c.commit.new.disk) c.args.self.now c.commit.new.self _
@@ -26,6 +27,6 @@ returns-in-Ok-make_room g c = λ step steps.
 
 pub returns : goal.returns
 returns g c = λ step steps.
-    let entry = c.args.entry.now in
+    let entry = entry_of c.args.entry.now in
     obeys_entry g.D.Disk.tells entry c.requires.rules step (g.D.Disk.state c.args.disk.now) (g.D.Disk.state c.make_room.new.disk) c.args.self.now c.make_room.new.self _
     (changes_failed g.D.Disk.tells _ _ _ _ step NoRefusal 1 0 _ (g.D.Disk.state c.args.disk.now) (g.D.Disk.state c.make_room.new.disk) c.args.self.now c.make_room.new.self c.in-Err.fault c.in-Err.ensures.makes)
