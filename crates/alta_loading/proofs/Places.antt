@@ -3,13 +3,15 @@ use Rattle.std.proofs.Common.{◌≡◌, inl, inr, ℕ, zero, suc, ◌+◌, ◌<
 use Rattle.std.specs.List.{sum_by}
 use Rattle.std.proofs.lemmas.List.{drop-drop, drop-take, take-take}
 use Rattle.std.proofs.lemmas.List.Sums.{sum_by-cons}
+use Rattle.alta_codec.specs.declared.extent.Extent.{Extent}
 use Rattle.alta_content.specs.declared.document.DocRow.{DocRow}
 use Rattle.alta_disk.specs.Parts.{part}
 use Rattle.alta_meaning.specs.Broken.{IsFaultAmong, IsBrokenIn}
 use Rattle.alta_level.specs.Damage.{data_place, stored_at}
 use Rattle.alta_level.specs.Stored.{Stored, IsListFault}
-use Rattle.alta_loading.specs.Lists.{stored_in}
+use Rattle.alta_loading.specs.Lists.{stored_as, stored_in}
 use Rattle.alta_table.specs.declared.term.TermRow.{TermRow}
+use Rattle.alta_table.specs.Places.{stream_extent, summary_extent}
 use Rattle.alta_table.specs.Tables.{Tables}
 use Rattle.alta_table.specs.Terms.{counts_of, data_of, streams_of, summaries_of, terms_of}
 
@@ -21,6 +23,15 @@ front_part a b n place image whole e w = ap (take a) w ∙ take-take a n (drop p
 pub back_part : (a b n place : ℕ) (image whole : List ℕ) → n ≡ a + b → whole ≡ take n (drop place image) → drop a whole ≡ part (place + a) b image
 back_part a b n place image whole e w =
     ap (drop a) w ∙ ap (λ (k : ℕ). drop a (take k (drop place image))) e ∙ drop-take a b (drop place image) ∙ ap (take b) (drop-drop a place image)
+
+-- so a list whose stream and summary were read as one is the one that stands there
+pub stored_read : (level : Tables) (row n : ℕ) (stream summary : Extent) (image whole front behind : List ℕ) → stream ≡ stream_extent level row → summary ≡ summary_extent level row → n ≡ stream.bytes + summary.bytes
+    → whole ≡ part stream.place n image → front ≡ take stream.bytes whole → behind ≡ drop stream.bytes whole → stored_as level row front behind ≡ stored_in level row image
+stored_read level row n stream summary image whole front behind s t size read f b =
+    let there : Extent → Extent → Stored = λ x y. stored_as level row (part x.place x.bytes image) (part (x.place + x.bytes) y.bytes image) in
+    ap (λ (x : List ℕ). stored_as level row x behind) (f ∙ front_part stream.bytes summary.bytes n stream.place image whole size read)
+    ∙ ap (λ (y : List ℕ). stored_as level row (part stream.place stream.bytes image) y) (b ∙ back_part stream.bytes summary.bytes n stream.place image whole size read)
+    ∙ ap (λ (x : Extent). there x summary) s ∙ ap (λ (y : Extent). there (stream_extent level row) y) t
 
 -- ---- a fault of a list is one of its level
 

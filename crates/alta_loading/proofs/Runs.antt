@@ -1,6 +1,6 @@
 -- Loads one after the other.
 use Rattle.std.proofs.Common.{◌≡◌, ◌⊎◌, ⊎_elim, inl, inr, ℕ, zero, suc, ◌+◌, ◌<◌, ◌≤◌, List, [], ◌∷◌, ◌++◌, map, take, drop, length, get_or, refl, sym, subst, ap, ◌∙◌, arith, rules, append-nil, append_assoc}
-use Rattle.std.specs.Prelude.{Result, Ok, Err, All}
+use Rattle.std.specs.Prelude.{Option, Result, Ok, Err, All}
 use Rattle.std.proofs.lemmas.List.{map-append}
 use Rattle.std.proofs.lemmas.List.Elements.{All-nil, All-cons, All-head, All-tail}
 use Rattle.std.proofs.lemmas.List.Sums.{sum_by-append}
@@ -9,7 +9,7 @@ use Rattle.alta_disk.specs.Disk.{DiskState, Same}
 use Rattle.alta_disk.proofs.Moments.{passes_same}
 use Rattle.alta_level.specs.Stored.{IsListFault, IsListOf}
 use Rattle.alta_disk.specs.Answers.{IfDamaged, IsDamaged, IsFound}
-use Rattle.alta_loading.specs.Loads.{IsFirstFault, IsWhole, KeepRows, Load, ReadsLists, Tells, list_at, load_in, load_size, load_sizes, loads_from, number_of, stored_by}
+use Rattle.alta_loading.specs.Loads.{IsFirstFault, IsWhole, KeepRows, Load, ReadsLists, Tells, list_at, load_at, load_in, load_size, load_sizes, loads_from, number_of, row_from, stored_by}
 use Rattle.alta_table.specs.Tables.{Tables}
 use Rattle.alta_words.specs.declared.posting.Posting.{Posting}
 use Rattle.alta_disk.specs.declared.fault.LoadFault.{LoadFault}
@@ -227,6 +227,18 @@ loads_more i levels term x l e =
     let one : i + 1 ≡ suc i = omega arith in let here : 0 + i ≡ i = omega arith in
     ap (λ (k : ℕ). loads_from 0 (take k levels) term) one ∙ loads_next 0 i levels term x l e ∙ ap (λ (k : ℕ). loads_from 0 (take i levels) term ++ load_in k x term) here
 
+-- one level more: its list, where it has the term
+pub loads_at : (i : ℕ) (levels : List Tables) (term : List ℕ) (x : Tables) (row : Option ℕ) → i < length levels → x ≡ get_or levels i x → row ≡ row_from 0 x.terms term
+    → loads_from 0 (take i levels) term ++ load_at i x row ≡ loads_from 0 (take (i + 1) levels) term
+loads_at i levels term x row l e is =
+    ap (λ (r : Option ℕ). loads_from 0 (take i levels) term ++ load_at i x r) is ∙ sym (loads_more i levels term x l e)
+
+-- and the levels behind it
+pub loads_whole : (i : ℕ) (levels : List Tables) (term : List ℕ) (x : Tables) (row : Option ℕ) → i < length levels → x ≡ get_or levels i x → row ≡ row_from 0 x.terms term
+    → (loads_from 0 (take i levels) term ++ load_at i x row) ++ loads_from (0 + (i + 1)) (drop (i + 1) levels) term ≡ loads_from 0 levels term
+loads_whole i levels term x row l e is =
+    ap (λ (loads : List Load). loads ++ loads_from (0 + (i + 1)) (drop (i + 1) levels) term) (loads_at i levels term x row l e is) ∙ sym (loads_split 0 (i + 1) levels term)
+
 -- ---- a run of loads
 
 -- These were loaded, all whole, between two states of the disk.
@@ -267,3 +279,8 @@ module _ (tells : Type 0) (loads : List Load) (numbers : List ℕ) (lists : List
   -- it ends with a fault, before the rest
   pub run_ended : {X Y : Type 0} (rest all : List Load) (e : LoadFault) → (loads ++ more) ++ rest ≡ all → ReadsLists {X = X} tells more mid new (Err e) → ReadsLists {X = Y} tells all old new (Err e)
   run_ended rest all e a last = loads_ended tells loads more rest all old mid new e a run.reads run.told last
+
+  -- what it read, before the rest
+  pub run_cost : (rest all : List Load) → (loads ++ more) ++ rest ≡ all → Reads tells (load_sizes all) old new
+  run_cost rest all a =
+      reads_most tells (load_sizes (loads ++ more)) (load_sizes all) old new (omega (arith, ap load_sizes a, sum_by-append load_size (loads ++ more) rest)) sizes_both

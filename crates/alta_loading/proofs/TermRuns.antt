@@ -1,17 +1,20 @@
 -- The lists of terms, loaded one term after the other.
-use Rattle.std.proofs.Common.{◌≡◌, ℕ, List, [], ◌∷◌, ◌++◌, map, refl, sym, subst, ap, ◌∙◌, arith, append-nil, append_assoc}
+use Rattle.std.proofs.Common.{◌≡◌, ℕ, List, [], ◌∷◌, ◌++◌, length, map, refl, sym, subst, ap, ◌∙◌, arith, append-nil, append_assoc}
 use Rattle.std.specs.Prelude.{Ok, Err}
 use Rattle.std.proofs.lemmas.List.{map_push}
 use Rattle.std.proofs.lemmas.List.Sums.{sum_by-append}
 use Rattle.std.proofs.lemmas.Grind.{flat_map-append}
+use Rattle.alta_content.specs.Lists.{locations_of}
 use Rattle.alta_content.specs.declared.content.Content.{Content}
 use Rattle.alta_disk.specs.Calls.{Reads}
 use Rattle.alta_disk.specs.Disk.{DiskState}
-use Rattle.alta_loading.proofs.Runs.{loads_ended, reads_most, reads_none, reads_then, tells_none, tells_then}
-use Rattle.alta_loading.specs.Loads.{Load, ReadsLists, Tells, load_size, load_sizes, loads_from}
-use Rattle.alta_loading.specs.Terms.{KeepTerm, KeepTerms, lists_of_term, loads_of, term_key}
+use Rattle.alta_loading.proofs.Runs.{loads_ended, reads_most, reads_none, reads_then, tells_none, tells_then, tells_value}
+use Rattle.alta_loading.specs.Loads.{Load, ReadsLists, Tells, load_size, load_sizes, loads_from, number_of}
+use Rattle.alta_loading.specs.Terms.{KeepTerm, KeepTerms, lists_of_term, loads_of, number_if_some, term_key}
 use Rattle.alta_disk.specs.declared.fault.LoadFault.{LoadFault}
-use Rattle.alta_search.specs.Lists.{TermKey}
+use Rattle.alta_search.specs.Lists.{TermKey, key_of, level_in}
+use Rattle.alta_search.specs.declared.lists.LevelList.{LevelList}
+use Rattle.alta_search.specs.declared.lists.TermLists.{TermLists}
 use Rattle.alta_table.specs.Tables.{Tables}
 
 -- The lists of these terms were loaded, all whole, between two states of the disk.
@@ -76,3 +79,22 @@ module _ (tells : Type 0) (levels : List Tables) (newest : Content) (done : List
   terms_cost rest all a =
       reads_most tells (load_sizes (loads_of levels done ++ loads_from 0 levels term)) (load_sizes (loads_of levels all)) old new
       (omega (arith, ap load_sizes (sym (loads_rest rest) ∙ ap (loads_of levels) a), sum_by-append load_size (loads_of levels done ++ loads_from 0 levels term) (loads_of levels rest))) both
+
+-- ---- the lists of a term that is given as a slice
+
+pub reads_of : (tells : Type 0) (levels : List Tables) (slice term : List ℕ) → slice ≡ term → (old new : DiskState) → Reads tells (load_sizes (loads_from 0 levels slice)) old new → Reads tells (load_sizes (loads_from 0 levels term)) old new
+reads_of tells levels slice term same old new reads = subst (λ (t : List ℕ). Reads tells (load_sizes (loads_from 0 levels t)) old new) same reads
+
+pub told_of : {X : Type 0} (levels : List Tables) (slice term : List ℕ) → slice ≡ term → (image : List ℕ) (x : X) → Tells {X = X} image (loads_from 0 levels slice) (Ok x) → Tells {X = Unit {0}} image (loads_from 0 levels term) (Ok tt)
+told_of {X} levels slice term same image x told =
+    subst (λ (t : List ℕ). Tells {X = Unit {0}} image (loads_from 0 levels t) (Ok tt)) same (tells_value {X = X} {Y = Unit {0}} image (loads_from 0 levels slice) x tt told)
+
+-- the term and its levels
+pub key_is : (levels : List Tables) (newest : Content) (slice term : List ℕ) → slice ≡ term → (lists : TermLists) (coded : List LevelList) (number : ℕ) → lists.term ≡ term → map level_in coded ≡ map number_of (loads_from 0 levels slice)
+    → number ≡ length levels → map level_in lists.levels.items ≡ map level_in coded ++ number_if_some number (locations_of newest.lists term) → key_of lists ≡ term_key levels newest term
+key_is levels newest slice term same lists coded number here numbers many all =
+    let f : List ℕ → List ℕ → TermKey = λ t ns. record { term = t; levels = ns } in
+    let behind = locations_of newest.lists term in
+    ap (λ (t : List ℕ). f t (map level_in lists.levels.items)) here
+    ∙ ap (f term) (all ∙ ap (λ (ns : List ℕ). ns ++ number_if_some number behind) (numbers ∙ ap (λ (t : List ℕ). map number_of (loads_from 0 levels t)) same)
+    ∙ ap (λ (n : ℕ). map number_of (loads_from 0 levels term) ++ number_if_some n behind) many)

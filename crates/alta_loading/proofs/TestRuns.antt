@@ -8,9 +8,10 @@ use Rattle.std.proofs.lemmas.Grind.{flat_map-append}
 use Rattle.alta_content.specs.declared.content.Content.{Content}
 use Rattle.alta_disk.specs.Calls.{Reads}
 use Rattle.alta_disk.specs.Disk.{DiskState}
-use Rattle.alta_loading.proofs.Runs.{loads_ended, reads_most, reads_none, reads_then, tells_none, tells_then}
+use Rattle.alta_loading.proofs.Runs.{loads_ended, reads_most, reads_none, reads_then, tells_none, tells_then, tells_value}
 use Rattle.alta_loading.specs.Loads.{Load, ReadsLists, Tells, load_size, load_sizes}
-use Rattle.alta_loading.specs.Met.{keys_met, lists_met, loads_met, loads_of_tests}
+use Rattle.alta_loading.specs.Met.{keys_met, lists_met, loads_met, loads_of_tests, terms_met}
+use Rattle.alta_loading.specs.Terms.{loads_of}
 use Rattle.alta_disk.specs.declared.fault.LoadFault.{LoadFault}
 use Rattle.alta_machine.specs.declared.test.Test.{Test}
 use Rattle.alta_search.specs.Lists.{IsCut, TermKey}
@@ -75,3 +76,21 @@ module _ (tells : Type 0) (levels : List Tables) (newest : Content) (done : List
   tests_cost rest all a =
       reads_most tells (load_sizes (loads done ++ more)) (load_sizes (loads all)) old new
       (omega (arith, ap load_sizes (sym (loads_rest rest) ∙ ap loads a), sum_by-append load_size (loads done ++ more) (loads rest))) both
+
+-- what was read of the first tests alone
+pub tests_before : (tells : Type 0) (levels : List Tables) (newest : Content) (done : List Test) (keys : List (List TermKey)) (lists : List (List (List (List ℕ)))) (old mid : DiskState)
+    → TestsRun tells levels newest done keys lists old mid → (rest all : List Test) → done ++ rest ≡ all → Reads tells (load_sizes (loads_of_tests levels newest all)) old mid
+tests_before tells levels newest done keys lists old mid run rest all a =
+    let parts = flat_map-append (loads_met levels newest) done rest in
+    reads_most tells (load_sizes (loads_of_tests levels newest done)) (load_sizes (loads_of_tests levels newest all)) old mid
+    (omega (arith, ap load_sizes (sym parts ∙ ap (loads_of_tests levels newest) a), sum_by-append load_size (loads_of_tests levels newest done) (loads_of_tests levels newest rest))) run.reads
+
+-- the lists of the terms that meet a test are those of the test
+pub reads_met : (tells : Type 0) (levels : List Tables) (newest : Content) (test : Test) (terms : List (List ℕ)) → terms ≡ terms_met levels newest test → (old new : DiskState)
+    → Reads tells (load_sizes (loads_of levels terms)) old new → Reads tells (load_sizes (loads_met levels newest test)) old new
+reads_met tells levels newest test terms met old new reads = subst (λ (ts : List (List ℕ)). Reads tells (load_sizes (loads_of levels ts)) old new) met reads
+
+pub told_met : {X : Type 0} (levels : List Tables) (newest : Content) (test : Test) (terms : List (List ℕ)) → terms ≡ terms_met levels newest test → (image : List ℕ) (x : X)
+    → Tells {X = X} image (loads_of levels terms) (Ok x) → Tells {X = Unit {0}} image (loads_met levels newest test) (Ok tt)
+told_met {X} levels newest test terms met image x told =
+    subst (λ (ts : List (List ℕ)). Tells {X = Unit {0}} image (loads_of levels ts) (Ok tt)) met (tells_value {X = X} {Y = Unit {0}} image (loads_of levels terms) x tt told)

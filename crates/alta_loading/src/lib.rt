@@ -17,7 +17,7 @@ pub use laws::{
     levels_and_newest_documents_are_shown, loaded_lists_are_those_of_the_content,
 };
 pub use list::load_list;
-pub use loading::{load_test, load_tests};
+pub use loading::load_tests;
 pub use meeting::terms_met;
 pub use snapshot::load_ordered;
 pub use terms::load_terms;

@@ -53,8 +53,14 @@ pub fn load_list<D: Disk>(
     ensures retrieves { Retrieves D.tells (stream_size table.now row.now.row + summary_size table.now row.now.row)
         (D.state disk.old) (D.state disk.new) result }
 {
-    let (stream, summary) = read_bytes(alloc, disk, table, row)?;
-    checked(table, row, stream, summary)
+    let (stream, summary) = places(table, row);
+    // A level lies within its disk, so there is always such an end.
+    let Some(end) = summary.place.checked_add(summary.bytes) else {
+        return Err(LoadFault::Memory);
+    };
+    let mut bytes = read_part(alloc, disk, stream.place, end - stream.place)?;
+    let behind = bytes.split_off(stream.bytes as usize)?;
+    checked(table, row, bytes, behind)
 }
 
 /// Where stream and summary of a row stand.
@@ -66,36 +72,6 @@ pub(crate) fn places(table: &OpenLevel, row: &TermCursor<'_>) -> (Extent, Extent
     ensures within { result.1.place + result.1.bytes ≤ table.now.place + total_of table.now.documents table.now.terms }
 {
     row.stream_place()
-}
-
-// The bytes of the stream and of the summary of a row.
-fn read_bytes<D: Disk>(
-    alloc: Global,
-    disk: &mut D,
-    table: &OpenLevel,
-    row: &TermCursor<'_>,
-) -> Result<(Vec<u8>, Vec<u8>), LoadFault>
-    requires row { row.now.row < length table.now.terms }
-    requires tables { row.now.tables ≡ table.now }
-    requires within { D.tells → LiesWithin table.now (D.state disk.old).content }
-    ensures stored { D.tells → IfOk result (λ x. stored_as table.now row.now.row x.0.items x.1.items
-        ≡ stored_in table.now row.now.row (D.state disk.old).content) }
-    ensures sizes { IfOk result (λ x. (length x.0.items ≡ stream_size table.now row.now.row)
-        × (length x.1.items ≡ summary_size table.now row.now.row)) }
-    ensures below { IfOk result (λ x. stream_place table.now row.now.row + stream_size table.now row.now.row
-        + summary_size table.now row.now.row < 2 ^ 64) }
-    ensures undamaged { IfDamaged result (λ p. ⊥) }
-    ensures retrieves { Retrieves D.tells (stream_size table.now row.now.row + summary_size table.now row.now.row)
-        (D.state disk.old) (D.state disk.new) result }
-{
-    let (stream, summary) = places(table, row);
-    // A level lies within its disk, so there is always such an end.
-    let Some(end) = summary.place.checked_add(summary.bytes) else {
-        return Err(LoadFault::Memory);
-    };
-    let mut bytes = read_part(alloc, disk, stream.place, end - stream.place)?;
-    let behind = bytes.split_off(stream.bytes as usize)?;
-    Ok((bytes, behind))
 }
 
 // The list of a row, of these bytes, or its first fault.

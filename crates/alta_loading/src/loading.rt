@@ -4,7 +4,7 @@ ghost use Rattle.alta_disk.specs.Disk.{DiskState};
 ghost use Rattle.alta_meaning.specs.Ordered.{RowsPrecede};
 ghost use Rattle.alta_loading.specs.Lists.{LiesWithin};
 ghost use Rattle.alta_loading.specs.Loads.{ReadsLists};
-ghost use Rattle.alta_loading.specs.Met.{keys_met, lists_met, loads_met, loads_of_tests};
+ghost use Rattle.alta_loading.specs.Met.{keys_met, lists_met, loads_of_tests};
 ghost use Rattle.alta_loading.specs.Snapshots.{all_rows};
 ghost use Rattle.alta_loading.specs.Kept.{AreKept};
 ghost use Rattle.alta_search.specs.Lists.{IsCut, test_in, test_keys, test_lists};
@@ -20,45 +20,13 @@ use alta_search::TestLists;
 use alta_table::OpenLevel;
 use std::alloc::Global;
 
-/// Loads the lists of a test: those of each term that meets it, in collating order of the terms, as [`crate::load_terms`] loads them.
+/// Loads the lists of each of these tests, one test after the other: those of each term that meets the test, in collating order of the
+/// terms, as [`crate::load_terms`] loads them.
 ///
 /// # Errors
 ///
-/// Those of [`crate::load_terms`]. `Memory` also where there was no memory for the terms.
-pub fn load_test<D: Disk>(
-    alloc: Global,
-    disk: &mut D,
-    levels: &[OpenLevel],
-    kept: &mut KeptLists,
-    newest: &MemLevel,
-    test: Test,
-) -> Result<TestLists, LoadFault>
-    requires within { D.tells → All (λ level. LiesWithin level (D.state disk.old).content) levels.now }
-    requires known { AreKept D.tells (D.state disk.old).content levels.now kept.old }
-    requires newest { HasAdded newest.now }
-    requires rise { RowsPrecede (all_rows levels.now newest.now.content) }
-    ensures test { IfOk result (λ loaded. test_in loaded ≡ test) }
-    ensures keys { IfOk result (λ loaded. test_keys loaded ≡ keys_met levels.now newest.now.content test) }
-    ensures lists { D.tells → IfOk result (λ loaded. test_lists loaded
-        ≡ lists_met levels.now newest.now.content (D.state disk.old).content test) }
-    // Whatever the disk tells, the lists of a term rise one behind the other, and none is empty.
-    ensures cut { IfOk result (λ loaded. IsCut (test_lists loaded)) }
-    ensures known { AreKept D.tells (D.state disk.old).content levels.now kept.new }
-    ensures loads { ReadsLists D.tells (loads_met levels.now newest.now.content test) (D.state disk.old)
-        (D.state disk.new) result }
-{
-    let met = terms_met(alloc, levels, newest, &test)?;
-    match load_terms(alloc, disk, levels, kept, newest, met) {
-        Ok(terms) => Ok(TestLists { test, terms }),
-        Err(fault) => Err(fault),
-    }
-}
-
-/// Loads the lists of each of these tests, one test after the other, as [`load_test`] loads those of one.
-///
-/// # Errors
-///
-/// Those of [`load_test`]: the damage is the first fault of the first list that has one, in the order of loading.
+/// Those of [`crate::load_terms`]: the damage is the first fault of the first list that has one, in the order of loading. `Memory` also
+/// where there was no memory for the terms.
 pub fn load_tests<D: Disk>(
     alloc: Global,
     disk: &mut D,
@@ -76,6 +44,7 @@ pub fn load_tests<D: Disk>(
         ≡ map (keys_met levels.now newest.now.content) order.items) }
     ensures lists { D.tells → IfOk result (λ tests. map test_lists tests.items
         ≡ map (lists_met levels.now newest.now.content (D.state disk.old).content) order.items) }
+    // Whatever the disk tells, the lists of a term rise one behind the other, and none is empty.
     ensures cut { IfOk result (λ tests. All IsCut (map test_lists tests.items)) }
     ensures known { AreKept D.tells (D.state disk.old).content levels.now kept.new }
     ensures loads { ReadsLists D.tells (loads_of_tests levels.now newest.now.content order.items) (D.state disk.old)
@@ -83,8 +52,9 @@ pub fn load_tests<D: Disk>(
 {
     let mut tests = Vec::with_capacity(alloc, order.len())?;
     for test in order {
-        match load_test(alloc, disk, levels, kept, newest, test) {
-            Ok(lists) => tests.push(lists)?,
+        let met = terms_met(alloc, levels, newest, &test)?;
+        match load_terms(alloc, disk, levels, kept, newest, met) {
+            Ok(terms) => tests.push(TestLists { test, terms })?,
             Err(fault) => return Err(fault),
         }
     }

@@ -1,15 +1,16 @@
 // The lists of a term.
 ghost use Rattle.std.specs.Prelude.{◌≡◌, ◌∷◌, ◌++◌, ◌^◌, ℕ, List, [], map, All, Err, IfOk, IfSome, OnOk, Some, MatchOption, ◌<◌, length, slice_get, slice_index, slice_index_or, IsTrue};
+ghost use Rattle.alta_content.specs.Lists.{locations_of};
 ghost use Rattle.alta_content.specs.Rows.{ends_of};
 ghost use Rattle.alta_disk.specs.Disk.{DiskState};
 ghost use Rattle.alta_loading.specs.Kept.{AreKept, AreTestedIn, KeepsAlso, KeepsTested};
 ghost use Rattle.alta_loading.specs.Lists.{KeepsRow, LiesWithin, stream_size};
-ghost use Rattle.alta_loading.specs.Loads.{KeepRows, Load, ReadsLists, list_at, load_at, load_in, loads_from, number_of, row_from};
+ghost use Rattle.alta_loading.specs.Loads.{KeepRows, ReadsLists, list_at, load_at, loads_from, number_of, row_from};
 ghost use Rattle.alta_loading.specs.Met.{level_terms};
 ghost use Rattle.alta_loading.specs.Near.{AreNear, IsNearAt};
-ghost use Rattle.alta_loading.specs.Terms.{KeepTerm, if_some, lists_of_term, number_if_some, term_key};
+ghost use Rattle.alta_loading.specs.Terms.{if_some, number_if_some};
 ghost use Rattle.alta_loading.specs.Tested.{AreEndsWhole, IsAllEnds};
-ghost use Rattle.alta_search.specs.Lists.{key_of, level_in, level_list, stored_list, term_lists};
+ghost use Rattle.alta_search.specs.Lists.{level_in, level_list, stored_list, term_lists};
 ghost use Rattle.alta_table.specs.Places.{row_at};
 ghost use Rattle.alta_table.specs.Tables.{Tables};
 ghost use Rattle.alta_table.specs.Terms.{counts_of};
@@ -27,45 +28,24 @@ use alta_words::Posting;
 use std::alloc::{AllocError, Global};
 use std::rc::Rc;
 
-/// Loads the lists of a term: those of the levels, that of the oldest level first, and behind them a copy of that of the newest
-/// documents. A list of a level is held as it is coded, but that of all documents' ends, once it was tested, as the level's rows
-/// have it. What `kept` knows is not read, and a list that was read and is long is kept there. The oldest level is numbered 0, and the
-/// newest documents are numbered behind all levels. A level without the term has no list. In each level the term is looked up behind the term before, by `nears`,
-/// which has all levels, and else by halves, where that is empty.
-///
-/// # Errors
-///
-/// `Damaged` exactly where one of the lists has a fault, at the first fault of the first list that has one. `Disk` where a
-/// read failed. `Memory` where there was no memory for the lists.
-pub(crate) fn load_term<'a, D: Disk>(
+/// The lists of a term: those of levels, and behind them a copy of that of the newest documents, which have this number.
+pub(crate) fn all_lists(
     alloc: Global,
-    disk: &mut D,
-    levels: &'a [OpenLevel],
-    kept: &mut KeptLists,
     newest: &MemLevel,
+    number: u64,
     term: Bytes,
-    nears: &mut [Near<'a>],
-) -> Result<TermLists, LoadFault>
-    requires within { D.tells → All (λ level. LiesWithin level (D.state disk.old).content) levels.now }
-    requires known { AreKept D.tells (D.state disk.old).content levels.now kept.old }
-    requires sound { IsTrue newest.now.sound }
-    requires nears { AreNear levels.now nears.old }
-    ensures nears { nears.new ≡ nears.old }
-    ensures key { IfOk result (λ lists. key_of lists ≡ term_key levels.now newest.now.content term) }
-    ensures lists { D.tells → IfOk result (λ lists. term_lists lists
-        ≡ lists_of_term levels.now newest.now.content (D.state disk.old).content term) }
-    ensures kept { IfOk result (λ lists. KeepTerm levels.now newest.now.content term (term_lists lists)) }
-    ensures known { AreKept D.tells (D.state disk.new).content levels.now kept.new }
-    ensures loads { ReadsLists D.tells (loads_from 0 levels.now term) (D.state disk.old) (D.state disk.new) result }
+    coded: Vec<LevelList>,
+) -> Result<TermLists, AllocError>
+    requires { IsTrue newest.now.sound }
+    ensures term { IfOk result (λ lists. lists.term ≡ term) }
+    ensures numbers { IfOk result (λ lists. map level_in lists.levels.items ≡ map level_in coded.items
+        ++ number_if_some number (locations_of newest.now.content.lists term)) }
+    ensures lists { IfOk result (λ lists. term_lists lists ≡ map level_list coded.items
+        ++ if_some (locations_of newest.now.content.lists term)) }
 {
-    match load_coded(alloc, disk, levels, kept, term.as_slice(), nears) {
-        Ok(coded) => {
-            let list = newest.get(term.as_slice());
-            let levels = with_newest(alloc, coded, levels.len() as u64, list)?;
-            Ok(TermLists { term, levels })
-        }
-        Err(fault) => Err(fault),
-    }
+    let list = newest.get(term.as_slice());
+    let levels = with_newest(alloc, coded, number, list)?;
+    Ok(TermLists { term, levels })
 }
 
 // The lists, with a copy of one more behind them, where it is not empty.
@@ -91,8 +71,16 @@ fn with_newest(
     Ok(all)
 }
 
-// The lists of a term in levels, that of the oldest level first, by one read of the disk for each level that has the term.
-fn load_coded<'a, D: Disk>(
+/// Loads the lists of a term in levels, that of the oldest level first, by one read of the disk for each level that has the term. A list
+/// is held as it is coded, but that of all documents' ends, once it was tested, as the level's rows have it. What `kept` knows is not
+/// read, and a list that was read and is long is kept there. The oldest level is numbered 0. A level without the term has no list. In
+/// each level the term is looked up behind the term before, by `nears`, which has all levels, and else by halves, where that is empty.
+///
+/// # Errors
+///
+/// `Damaged` exactly where one of the lists has a fault, at the first fault of the first list that has one. `Disk` where a
+/// read failed. `Memory` where there was no memory for the lists.
+pub(crate) fn load_coded<'a, D: Disk>(
     alloc: Global,
     disk: &mut D,
     levels: &'a [OpenLevel],
@@ -118,59 +106,15 @@ fn load_coded<'a, D: Disk>(
     let mut lists = Vec::new(alloc);
     for number in 0..levels.len() {
         let level = &levels[number];
-        if let Err(fault) = load_next(
-            alloc,
-            disk,
-            &mut lists,
-            number as u64,
-            level,
-            kept,
-            term,
-            nears,
-        ) {
-            return Err(fault);
+        let Some(row) = row_of(level, term, number as u64, nears) else {
+            continue;
+        };
+        match load_row(alloc, disk, number as u64, level, kept, &row, term) {
+            Ok(list) => lists.push(list)?,
+            Err(fault) => return Err(fault),
         }
     }
     Ok(lists)
-}
-
-// The list of a term in a level, behind others, where the level has the term.
-fn load_next<'a, D: Disk>(
-    alloc: Global,
-    disk: &mut D,
-    lists: &mut Vec<LevelList>,
-    number: u64,
-    level: &'a OpenLevel,
-    kept: &mut KeptLists,
-    term: &[u8],
-    nears: &mut [Near<'a>],
-) -> Result<(), LoadFault>
-    requires within { D.tells → LiesWithin level.now (D.state disk.old).content }
-    requires ends { D.tells → AreEndsWhole kept.old.ends (D.state disk.old).content (level.now ∷ []) }
-    requires tested { AreTestedIn D.tells (D.state disk.old).content number level.now kept.old }
-    requires nears { IsNearAt level.now number nears.old }
-    ensures nears { nears.new ≡ nears.old }
-    ensures numbers { OnOk result (map level_in lists.new.items ≡ map level_in lists.old.items
-        ++ map number_of (load_in number level.now term.now)) }
-    ensures lists { D.tells → OnOk result (map level_list lists.new.items
-        ≡ map level_list lists.old.items ++ map (list_at (D.state disk.old).content)
-        (load_in number level.now term.now)) }
-    ensures kept { OnOk result ((before : List Load) → KeepRows before (map level_list lists.old.items)
-        → KeepRows (before ++ load_in number level.now term.now) (map level_list lists.new.items)) }
-    ensures keeps { KeepsTested D.tells (D.state disk.old).content number level.now kept.old kept.new }
-    ensures loads { ReadsLists D.tells (load_in number level.now term.now) (D.state disk.old)
-        (D.state disk.new) result }
-{
-    match row_of(level, term, number, nears) {
-        None => Ok(()),
-        Some(row) => match load_row(alloc, disk, number, level, kept, &row, term) {
-            Ok(list) => {
-                lists.push(list)?;
-                Ok(())
-            }
-            Err(fault) => Err(fault),
-        },
-    }
 }
 
 // The row of a term in the level of this number, behind that of the term before, where it was looked up.
@@ -225,7 +169,7 @@ fn row_among<'a>(among: &mut [Near<'a>], number: usize, term: &[u8]) -> Option<T
     among[number].find(term)
 }
 
-// The list of a row of a level, which has this term.
+// The list of a row of a level, which has this term. A long one that is read is kept.
 fn load_row<D: Disk>(
     alloc: Global,
     disk: &mut D,
@@ -258,38 +202,13 @@ fn load_row<D: Disk>(
             level: number,
             stored: Stored::Shared(posting.clone()?),
         }),
-        None => read_row(alloc, disk, number, level, kept, row, term),
-    }
-}
-
-// The same, of a list that is read. A long one is kept.
-fn read_row<D: Disk>(
-    alloc: Global,
-    disk: &mut D,
-    number: u64,
-    level: &OpenLevel,
-    kept: &mut KeptLists,
-    row: &TermCursor<'_>,
-    term: &[u8],
-) -> Result<LevelList, LoadFault>
-    requires tables { row.now.tables ≡ level.now }
-    requires row { row.now.row < length level.now.terms }
-    requires term { slice_get (level_terms level.now) row.now.row ≡ Some term.now }
-    requires within { D.tells → LiesWithin level.now (D.state disk.old).content }
-    ensures number { IfOk result (λ list. level_in list ≡ number) }
-    ensures list { D.tells → IfOk result (λ list. level_list list
-        ≡ list_at (D.state disk.old).content (record { number = number; level = level.now; row = row.now.row })) }
-    ensures kept { IfOk result (λ list. KeepsRow level.now row.now.row (level_list list)) }
-    ensures keeps { KeepsTested D.tells (D.state disk.old).content number level.now kept.old kept.new }
-    ensures loads { ReadsLists D.tells (load_at number level.now (Some row.now.row)) (D.state disk.old)
-        (D.state disk.new) result }
-{
-    match load_list(alloc, disk, level, row) {
-        Ok(posting) => Ok(LevelList {
-            level: number,
-            stored: held(alloc, kept, number, level, row, term, posting)?,
-        }),
-        Err(fault) => Err(fault),
+        None => match load_list(alloc, disk, level, row) {
+            Ok(posting) => Ok(LevelList {
+                level: number,
+                stored: held(alloc, kept, number, level, row, term, posting)?,
+            }),
+            Err(fault) => Err(fault),
+        },
     }
 }
 

@@ -12,7 +12,7 @@ ghost use Rattle.alta_search.specs.Lists.{key_of, term_lists};
 
 use crate::kept::KeptLists;
 use crate::near::Near;
-use crate::term::load_term;
+use crate::term::{all_lists, load_coded};
 use alta_codec::Bytes;
 use alta_disk::{Disk, LoadFault};
 use alta_memlevel::MemLevel;
@@ -20,12 +20,13 @@ use alta_search::TermLists;
 use alta_table::OpenLevel;
 use std::alloc::{AllocError, Global};
 
-/// Loads the lists of each of these terms, one term after the other, as [`crate::load_term`] loads those of one. Each is looked up in
-/// a level near the place of the term before, so terms in collating order are found in a few steps each.
+/// Loads the lists of each of these terms, one term after the other: those of the levels, as [`crate::term::load_coded`] loads them, and
+/// behind them a copy of that of the newest documents, which are numbered behind all levels. Each term is looked up in a level near the
+/// place of the term before, so terms in collating order are found in a few steps each.
 ///
 /// # Errors
 ///
-/// Those of [`crate::load_term`]: the damage is the first fault of the first list that has one, in the order of loading.
+/// Those of [`crate::term::load_coded`]: the damage is the first fault of the first list that has one, in the order of loading.
 pub fn load_terms<D: Disk>(
     alloc: Global,
     disk: &mut D,
@@ -46,11 +47,15 @@ pub fn load_terms<D: Disk>(
     ensures known { AreKept D.tells (D.state disk.new).content levels.now kept.new }
     ensures loads { ReadsLists D.tells (loads_of levels.now terms.items) (D.state disk.old) (D.state disk.new) result }
 {
+    let behind = levels.len() as u64;
     let mut loaded = Vec::with_capacity(alloc, terms.len())?;
     let mut nears = nears_of(alloc, levels, terms.len())?;
     for term in terms {
-        match load_term(alloc, disk, levels, kept, newest, term, &mut nears) {
-            Ok(lists) => loaded.push(lists)?,
+        match load_coded(alloc, disk, levels, kept, term.as_slice(), &mut nears) {
+            Ok(coded) => {
+                let lists = all_lists(alloc, newest, behind, term, coded)?;
+                loaded.push(lists)?;
+            }
             Err(fault) => return Err(fault),
         }
     }
