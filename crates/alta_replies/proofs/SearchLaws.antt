@@ -26,7 +26,7 @@ use Rattle.alta_content.specs.declared.document.DocRow.{DocRow}
 use Rattle.alta_search.specs.Told.{answer_of}
 use Rattle.alta_top.specs.Best.{AreBest}
 use Rattle.alta_machine.specs.Scores.{scored}
-use Rattle.alta_top.specs.declared.ranking.Top.{Top}
+use Rattle.alta_top.specs.declared.best.Top.{Top}
 use Rattle.alta_machine.specs.Machine.{IsRefusal}
 
 -- what was written is the reply

@@ -8,7 +8,7 @@ use Rattle.alta_machine.specs.declared.usage.Use.{Use}
 use Rattle.alta_search.specs.Plans.{lists, locations}
 use Rattle.alta_search.specs.Tops.{same_test}
 use Rattle.alta_search.specs.View.{View}
-use Rattle.alta_top.specs.declared.ranking.Top.{Top}
+use Rattle.alta_top.specs.declared.best.Top.{Top}
 
 -- the first `count` of the documents by score, and how many they are
 pub record AreBest (uses : List Use) (documents : List Document) (count : ℕ) (top : Top) : Type 0 where

@@ -25,6 +25,7 @@ ghost use Rattle.alta_top.specs.Best.{AreBest, AreTopSteps};
 ghost use Rattle.alta_search.specs.View.{Shows};
 ghost use Rattle.alta_search.specs.Walked.{WalksOver};
 
+use crate::best::Top;
 use crate::scored_walk::best_scored;
 use crate::scoring::{may_lead, score_row, scorer};
 use alta_codec::{Steps, TOP};
@@ -39,15 +40,6 @@ use alta_rank::{
 use alta_search::{Section, Snapshot, TestReader, asked, picked};
 use std::alloc::{AllocError, Global};
 use std::sync::ledger::Ledger;
-
-/// The best answers of a query: the first by score, and how many answers there are in all.
-#[derive(Drop)]
-pub struct Top {
-    /// The answers, by falling score and then by rising number.
-    pub answers: ScoredList,
-    /// How many answers the query has.
-    pub total: u64,
-}
 
 /// The indexes of the rows of all answers of a plan.
 fn answered<L: Ledger>(
