@@ -17,7 +17,7 @@ use Rattle.alta_cursors.specs.Open.{AreLazySteps, AreLeft, AreNumbers, AreOpen, 
 use Rattle.alta_search.specs.Plans.{lists, locations, locations_below}
 use Rattle.alta_search.specs.Told.{answer_of}
 use Rattle.alta_search.specs.View.{Shows}
-use Rattle.alta_cursors.specs.Open.{CursorView}
+use Rattle.alta_cursors.specs.View.{CursorView}
 use Rattle.alta_cursors.specs.declared.cursors.OpenCursor.{OpenCursor}
 use Rattle.alta_machine.specs.declared.cursors.TheConstants.{CURSORS}
 use Rattle.alta_search.specs.declared.page.Page.{Page}

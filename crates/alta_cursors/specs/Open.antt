@@ -2,26 +2,18 @@
 use Rattle.std.specs.Prelude.{◌≡◌, ◌≢◌, ◌↔◌, ℕ, ◌+◌, ◌<◌, ◌≤◌, ◌==◌, IsTrue, if◌then◌else◌, List, [], ◌∷◌, map, take, drop, length, All, AllPairs, Option, Some, None, IsNone}
 use Rattle.alta_compile.specs.Space.{Placed}
 use Rattle.alta_compile.specs.View.{tree}
-use Rattle.alta_compile.specs.declared.asked.Conjunction.{Conjunction}
-use Rattle.alta_compile.specs.declared.plan.Plan.{Plan}
 use Rattle.alta_machine.specs.declared.document.Document.{Document}
 use Rattle.alta_search.specs.Documents.{AreToCome}
 use Rattle.alta_machine.specs.Searching.{told}
 use Rattle.alta_search.specs.Answers.{coming, first_end}
 use Rattle.alta_search.specs.Plans.{IsOneFound, lists, locations, locations_below}
 use Rattle.alta_search.specs.Readers.{Each}
-use Rattle.alta_search.specs.View.{View, Shows}
+use Rattle.alta_search.specs.View.{Shows}
+use Rattle.alta_cursors.specs.View.{CursorView}
 use Rattle.alta_cursors.specs.declared.cursors.OpenCursor.{OpenCursor}
 use Rattle.alta_machine.specs.declared.cursors.TheConstants.{CURSORS}
 use Rattle.alta_search.specs.declared.page.Page.{Page}
 use Rattle.alta_machine.specs.OpenAnswers.{OpenAnswers, left_of, with_fetched}
-
--- a plan, its conjunction if there is one, the snapshot of its tests, and the place from which on answers are still to come
-pub record CursorView : Type 0 where
-  pub plan : Plan
-  pub found : Option Conjunction
-  pub snapshot : View
-  pub from : ℕ
 
 abbrev pub cursor_number : OpenCursor → ℕ
 cursor_number c = c.number

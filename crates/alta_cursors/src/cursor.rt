@@ -54,7 +54,7 @@ impl Model for Cursor {
     ghost use Rattle.std.specs.Coded.{codes};
     ghost use Rattle.alta_search.specs.Leads.{IsConjunction};
     ghost use Rattle.alta_search.specs.Plans.{tests_of};
-    ghost use Rattle.alta_cursors.specs.Open.{CursorView};
+    ghost use Rattle.alta_cursors.specs.View.{CursorView};
 
     ghost Value = { CursorView };
 

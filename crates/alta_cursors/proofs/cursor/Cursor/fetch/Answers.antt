@@ -1,7 +1,7 @@
 use Rattle.std.proofs.Common.{subst, arith}
 use Rattle.alta_compile.specs.View.{tree}
 use Rattle.alta_search.specs.Answers.{IsPage}
-use Rattle.alta_cursors.specs.Open.{CursorView}
+use Rattle.alta_cursors.specs.View.{CursorView}
 use Rattle.alta_cursors.proofs.cursor.Cursor.fetch.Goals as goal
 
 pub returns-then-self-eq-TOP-clause-page : goal.returns-then-self-eq-TOP-clause-page
