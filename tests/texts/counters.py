@@ -2,7 +2,7 @@
 """Refuses a counter of steps that a search makes for itself: tests/texts/counters.py
 
 The bounds on a search are said of the one counter of steps that its caller lends. No contract forbids a body to make another, and
-to move readers by that; but whoever makes one has to name `Blank`, of which a counter is made. No crate from the readers up to the search, the ranking, the
+to move readers by that; but whoever makes one has to name `Blank`, of which a counter is made. No crate from the readers up to the search, the counts, the ranking, the
 leading word, the loading of lists, the marks of places and the dump, and none below these, may name it outside its tests, but for the counter's own module.
 alta_replies lies above them: it makes the counter of each line and lends it.
 """
@@ -13,7 +13,7 @@ import sys
 
 from chain import crates_of
 
-TOPS = ["alta_search", "alta_rank", "alta_lead", "alta_loading", "alta_gather", "alta_dump"]
+TOPS = ["alta_counts", "alta_top", "alta_cursors", "alta_search", "alta_rank", "alta_lead", "alta_loading", "alta_gather", "alta_dump"]
 COUNTER = "alta_codec/src/steps.rt"
 BLANK = re.compile(r"\bBlank\b")
 NO_CODE = re.compile(r"""'(?:\\.|[^'\\\n])'|"(?:\\.|[^"\\])*"|//[^\n]*|/\*.*?\*/""", re.DOTALL)

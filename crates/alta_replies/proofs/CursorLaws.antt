@@ -14,9 +14,9 @@ use Rattle.alta_machine.specs.Shape.{Shape}
 use Rattle.alta_machine.specs.declared.cause.Cause.TheVariants.{Memory as WantsMemory}
 use Rattle.alta_query.specs.declared.fault.QueryFault.{QueryFault}
 use Rattle.alta_machine.specs.declared.scored.Scored.{Scored}
-use Rattle.alta_search.specs.Open.{AreOpen, IsFetched}
+use Rattle.alta_cursors.specs.Open.{AreOpen, IsFetched}
 use Rattle.alta_machine.specs.OpenAnswers.{OpenAnswers, least_free, left_of, with_fetched, with_opened, without_cursor}
-use Rattle.alta_search.specs.declared.cursors.OpenCursor.{OpenCursor}
+use Rattle.alta_cursors.specs.declared.cursors.OpenCursor.{OpenCursor}
 use Rattle.alta_machine.specs.declared.cursors.TheConstants.{CURSORS}
 use Rattle.alta_search.specs.declared.page.Page.{Page}
 use Rattle.alta_machine.specs.Searching.{told, AnswerRow, answer_lines, found_line, row_lines, score_line, score_lines, query_refusal}

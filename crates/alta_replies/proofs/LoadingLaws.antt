@@ -25,7 +25,7 @@ use Rattle.alta_machine.specs.Shape.{Shape}
 use Rattle.alta_machine.specs.declared.cause.Cause.TheVariants.{Memory as WantsMemory}
 use Rattle.alta_query.specs.declared.fault.QueryFault.{QueryFault}
 use Rattle.alta_machine.specs.declared.test.Test.{Test}
-use Rattle.alta_search.specs.declared.cursors.OpenCursor.{OpenCursor}
+use Rattle.alta_cursors.specs.declared.cursors.OpenCursor.{OpenCursor}
 use Rattle.alta_machine.specs.declared.cursors.TheConstants.{CURSORS}
 use Rattle.alta_replies.specs.Loading.{Loads, LoadsKept, KeptHolds, Queries, loads_of_text, newest_in, open_loads, query_loads, ranked_loads_of_text, ranked_query_loads, search_loads, text_loads, top_loads, top_text_loads}
 use Rattle.alta_store.specs.Answers.{of_load, AnswersFault, IsOutside}

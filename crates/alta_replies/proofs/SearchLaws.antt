@@ -24,9 +24,9 @@ use Rattle.alta_machine.specs.declared.usage.Use.{Use}
 use Rattle.alta_machine.specs.Searching.{told, AnswerRow, answer_lines, row_lines, score_line, score_lines, cause_name, found_line, found_by, counted_by, ranked_by, explained_by, searching, counting, explaining, ranking, query_refusal}
 use Rattle.alta_content.specs.declared.document.DocRow.{DocRow}
 use Rattle.alta_search.specs.Told.{answer_of}
-use Rattle.alta_search.specs.Tops.{AreBest}
+use Rattle.alta_top.specs.Best.{AreBest}
 use Rattle.alta_machine.specs.Scores.{scored}
-use Rattle.alta_search.specs.declared.page.Top.{Top}
+use Rattle.alta_top.specs.declared.best.Top.{Top}
 use Rattle.alta_machine.specs.Machine.{IsRefusal}
 
 -- what was written is the reply

@@ -22,7 +22,7 @@ use Rattle.alta_machine.specs.Queries.{query_of}
 use Rattle.alta_machine.specs.Shape.{Shape}
 use Rattle.alta_machine.specs.declared.test.Test.{Test}
 use Rattle.alta_search.specs.Plans.{tests_of}
-use Rattle.alta_search.specs.declared.cursors.OpenCursor.{OpenCursor}
+use Rattle.alta_cursors.specs.declared.cursors.OpenCursor.{OpenCursor}
 use Rattle.alta_machine.specs.declared.cursors.TheConstants.{CURSORS}
 use Rattle.alta_machine.specs.Machine.{IsRefusal}
 use Rattle.alta_store.specs.Agreement.{Agrees, levels_of}

@@ -1,7 +1,7 @@
 -- What a call on cursors did.
 use Rattle.std.specs.Prelude.{ℕ, List, Result, IfOk, IfErr, OnOk, ◌≡◌}
-use Rattle.alta_search.specs.Open.{AreOpen}
-use Rattle.alta_search.specs.declared.cursors.OpenCursor.{OpenCursor}
+use Rattle.alta_cursors.specs.Open.{AreOpen}
+use Rattle.alta_cursors.specs.declared.cursors.OpenCursor.{OpenCursor}
 use Rattle.alta_store.specs.declared.fault.StoreFault.{StoreFault}
 use Rattle.alta_store.specs.declared.fault.StoreFault.TheVariants.{Memory}
 use Rattle.alta_machine.specs.Cursors.{Turn}

@@ -23,7 +23,8 @@ ghost use Rattle.alta_search.specs.Order.{used};
 ghost use Rattle.alta_search.specs.Plans.{tests_of};
 ghost use Rattle.alta_search.specs.Shown.{ShowsDocuments};
 ghost use Rattle.alta_search.specs.Told.{answer_of};
-ghost use Rattle.alta_search.specs.Tops.{AreBest, AreToRank};
+ghost use Rattle.alta_search.specs.Tops.{AreToRank};
+ghost use Rattle.alta_top.specs.Best.{AreBest};
 ghost use Rattle.alta_machine.specs.Scores.{scored};
 ghost use Rattle.alta_search.specs.View.{Shows};
 ghost use Rattle.alta_replies.specs.Replies.{IsReply};
@@ -37,8 +38,9 @@ use alta_compile::{Plan, a_plan_is_text, compile};
 use alta_disk::Disk;
 use alta_loading::{KeptLists, load_ordered};
 use alta_query::{Query, parse, print};
-use alta_search::{Loading, Page, Snapshot, Top, loading_order, ranking_order};
+use alta_search::{Loading, Page, Snapshot, loading_order, ranking_order};
 use alta_store::{Sources, Store, StoreFault, a_search_sees_the_state, load_fault};
+use alta_top::Top;
 use std::alloc::{AllocError, Global};
 use std::marker::Brand;
 use std::sync::ledger::{Blank, Ledger};
@@ -461,7 +463,7 @@ fn tallied<L: Ledger>(
         → n ≡ length (coming space (tree plan.now) snapshot.now 0)) }
 {
     let mut steps = Steps::<L>::new(blank);
-    let count = alta_search::count(alloc, plan, query, snapshot, &mut steps)?;
+    let count = alta_counts::count(alloc, plan, query, snapshot, &mut steps)?;
     Ok(count)
 }
 
@@ -500,6 +502,6 @@ fn best<L: Ledger>(
         → AreBest (uses_of (shape query.now)) documents count top) }
 {
     let mut steps = Steps::<L>::new(blank);
-    let top = alta_search::top(alloc, plan, query, snapshot, count, &mut steps)?;
+    let top = alta_top::top(alloc, plan, query, snapshot, count, &mut steps)?;
     Ok(top)
 }

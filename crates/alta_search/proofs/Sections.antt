@@ -1,5 +1,5 @@
 -- The first uses of a snapshot make a snapshot too.
-use Rattle.std.proofs.Common.{◌≡◌, ℕ, zero, suc, List, [], ◌∷◌, map, take, ap, ◌∙◌}
+use Rattle.std.proofs.Common.{◌≡◌, ℕ, zero, suc, List, [], ◌∷◌, map, take, sym, ap, ◌∙◌}
 use Rattle.std.specs.Prelude.{All}
 use Rattle.std.proofs.lemmas.List.{take-map}
 use Rattle.std.proofs.lemmas.List.Elements.{All-nil, All-cons, All-head, All-tail}
@@ -12,7 +12,9 @@ use Rattle.alta_search.specs.Met.{MeetTest}
 use Rattle.alta_search.specs.Readers.{Each}
 use Rattle.alta_search.specs.Sections.{first_uses}
 use Rattle.alta_search.specs.View.{IsView, Shows, View}
-use Rattle.alta_search.proofs.Ranks.{map_taken}
+
+pub map_taken : {X Y Z : Type 0} (f : X → Z) (g : Y → Z) (n : ℕ) (xs : List X) (ys : List Y) → map f xs ≡ map g ys → map f (take n xs) ≡ map g (take n ys)
+map_taken f g n xs ys h = sym (take-map f n xs) ∙ ap (take n) h ∙ take-map g n ys
 
 all_taken : {X : Type 0} (P : X → Type 0) (n : ℕ) (xs : List X) → All P xs → All P (take n xs)
 all_taken P zero [] h = h

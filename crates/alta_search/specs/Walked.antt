@@ -39,9 +39,3 @@ pub record WalksOver {A E : Type 0} (v : View) (before after : ℕ) (result : Re
     (IsSo : A → Type 0) : Type 0 where
   pub answer : IfOk result IsSo
   pub most : after ≤ before + locations v.cuts + lists v.cuts
-
--- Where memory was there, these are as many as the plan has answers over a snapshot.
-pub record CountsAnswers {E : Type 0} (p : Tree) (found : Option Conjunction) (v : View) (before after : ℕ)
-    (result : Result ℕ E) : Type 0 where
-  pub count : IfOk result (λ n. (space : List Placed) → Shows space v → n ≡ length (coming space p v 0))
-  pub steps : AreSearchSteps found v before after

@@ -38,7 +38,7 @@ fn list_len(list: &LevelList) -> u64
 }
 
 /// How many locations the lists of a term have.
-pub(crate) fn term_len(levels: &[LevelList]) -> u64
+pub fn term_len(levels: &[LevelList]) -> u64
     requires { IsRising (concat (map level_list levels.now)) }
     ensures { result ≡ length (concat (map level_list levels.now)) }
 {
@@ -83,7 +83,7 @@ fn len_at(tests: &[TestLists], index: usize) -> u64
 }
 
 /// Which of these tests has the fewest locations, the first of them.
-pub(crate) fn rarest(tests: &[TestLists], words: &[usize]) -> usize
+pub fn rarest(tests: &[TestLists], words: &[usize]) -> usize
     requires some { 0 < length words.now }
     requires cut { All IsCut (map (lists_at tests.now) words.now) }
     requires single { All IsSingle (map (lists_at tests.now) words.now) }
@@ -105,10 +105,7 @@ pub(crate) fn rarest(tests: &[TestLists], words: &[usize]) -> usize
 }
 
 /// A reader of the locations of a list, at the first. It adds one step.
-pub(crate) fn list_reader<'a, L: Ledger>(
-    list: &'a LevelList,
-    steps: &mut Steps<L>,
-) -> SingleReader<'a>
+pub fn list_reader<'a, L: Ledger>(list: &'a LevelList, steps: &mut Steps<L>) -> SingleReader<'a>
     requires { IsRising (level_list list.now) }
     ensures { IsMadeReader steps.old steps.new result IsSoundSingle
         (IsAtStart single_list single_list single_place single_left (level_list list.now)) }
@@ -122,7 +119,7 @@ pub(crate) fn list_reader<'a, L: Ledger>(
 }
 
 /// A reader of the locations of the lists of a term, at the first. It adds a step a list.
-pub(crate) fn chain_reader<'a, L: Ledger>(
+pub fn chain_reader<'a, L: Ledger>(
     alloc: Global,
     levels: &'a [LevelList],
     steps: &mut Steps<L>,
@@ -245,7 +242,7 @@ fn led_by_rarest<'a, L: Ledger>(
 }
 
 /// Every third of these indexes.
-pub(crate) fn every_third(alloc: Global, uses: &[usize]) -> Result<Vec<usize>, AllocError>
+pub fn every_third(alloc: Global, uses: &[usize]) -> Result<Vec<usize>, AllocError>
     ensures { IfOk result (λ all. all.items ≡ thirds uses.now) }
 {
     let mut all = Vec::with_capacity(alloc, uses.len() / 3)?;

@@ -35,7 +35,7 @@ enum Way<'a> {
 /// A reader of the ends that a plan finds. Contracts see what it reads and where it stands, and not which way it goes. No
 /// move takes memory.
 #[derive(Drop)]
-pub(crate) struct PlanReader<'a> {
+pub struct PlanReader<'a> {
     way: Way<'a>,
 }
 
@@ -78,7 +78,7 @@ impl<'a> PlanReader<'a> {
 
     /// A reader of the ends of the documents that have each word and none of the negated words, led by the word of this
     /// index, which stands at the first end at or above the place. No reader was moved before.
-    pub(crate) fn by_lead<L: Ledger>(
+    pub fn by_lead<L: Ledger>(
         ends: SingleReader<'a>,
         words: Vec<SingleReader<'a>>,
         negated: Vec<SingleReader<'a>>,
@@ -104,7 +104,7 @@ impl<'a> PlanReader<'a> {
     }
 
     /// The reader of the ends of a conjunction, where a word leads it, and this reader again where none does.
-    pub(crate) fn into_led(self) -> Result<LeadReader<SingleReader<'a>>, PlanReader<'a>>
+    pub fn into_led(self) -> Result<LeadReader<SingleReader<'a>>, PlanReader<'a>>
         ensures sound { IfOk result IsSoundLed }
         ensures led { IfOk result (λ r. self.entry ≡ led_view r) }
         ensures other { IfErr result (λ r. r ≡ self.entry) }
@@ -116,7 +116,7 @@ impl<'a> PlanReader<'a> {
     }
 
     /// Where it stands. Where it has passed no element at or above there, the elements from there on are left.
-    pub(crate) fn loc(&self) -> Loc
+    pub fn loc(&self) -> Loc
         ensures location { result ≡ self.now.place }
         ensures unpassed { IsTrue self.now.one → result < TOP → count_from self.now.all result ≤ self.now.left }
     {
@@ -124,7 +124,7 @@ impl<'a> PlanReader<'a> {
     }
 
     /// Goes to the next end, or to `TOP` past the last.
-    pub(crate) fn next<L: Ledger>(&mut self, steps: &mut Steps<L>)
+    pub fn next<L: Ledger>(&mut self, steps: &mut Steps<L>)
         requires below { self.old.place < TOP }
         ensures onward { IsOnward self.old self.new steps.old steps.new }
         ensures location { self.new.place ≡ first_from self.old.list (self.old.place + 1) }

@@ -14,7 +14,7 @@ use std::marker::Model;
 
 /// The first uses of a snapshot, borrowed, with all its rows and deleted ends. Contracts see the snapshot of these uses alone.
 #[derive(Drop)]
-pub(crate) struct Section<'a> {
+pub struct Section<'a> {
     tests: &'a [TestLists],
     uses: &'a [usize],
     rows: &'a AllRows,
@@ -77,7 +77,7 @@ impl<'a> Section<'a> {
     }
 
     /// The tests with their lists, and the index of the test of each use.
-    pub(crate) fn uses(&self) -> (&'a [TestLists], &'a [usize])
+    pub fn uses(&self) -> (&'a [TestLists], &'a [usize])
         ensures cuts { map (lists_at result.0.now) result.1.now ≡ self.now.cuts }
         ensures cut { All IsCut (map (lists_at result.0.now) result.1.now) }
         ensures used { map (test_at result.0.now) result.1.now ≡ self.now.tests }
@@ -95,7 +95,7 @@ impl<'a> Section<'a> {
     }
 
     /// The deleted ends.
-    pub(crate) fn gone(&self) -> &'a [Loc]
+    pub fn gone(&self) -> &'a [Loc]
         ensures { ShowsRising self.now.gone result.now }
     {
         self.gone

@@ -12,7 +12,7 @@ use std::sync::ledger::Ledger;
 /// A reader of the locations of a test that has one term at most: each move adds one step. Where the term has one list, it is
 /// that list's own.
 #[derive(Drop)]
-pub(crate) enum SingleReader<'a> {
+pub enum SingleReader<'a> {
     /// Of its one list, which is coded.
     Coded(WordReader<'a>),
     /// Of its one list, which is plain.

@@ -11,7 +11,7 @@ use std::sync::ledger::Ledger;
 
 /// A reader of the locations of a test. Where the test has one list in all, it is that list's own.
 #[derive(Drop)]
-pub(crate) enum TestReader<'a> {
+pub enum TestReader<'a> {
     /// Of its one list, which is coded.
     Coded(WordReader<'a>),
     /// Of its one list, which is plain.

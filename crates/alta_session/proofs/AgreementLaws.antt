@@ -2,8 +2,8 @@
 use Rattle.std.proofs.Common.{◌≡◌, ℕ, List, [], subst, sym}
 use Rattle.alta_disk.specs.Disk.{DiskState}
 use Rattle.alta_machine.specs.declared.document.State.{State}
-use Rattle.alta_search.specs.Open.{AreOpen}
-use Rattle.alta_search.specs.declared.cursors.OpenCursor.{OpenCursor}
+use Rattle.alta_cursors.specs.Open.{AreOpen}
+use Rattle.alta_cursors.specs.declared.cursors.OpenCursor.{OpenCursor}
 use Rattle.alta_session.specs.Agreement.{AgreesOn}
 use Rattle.alta_machine.specs.Machine.{Machine, started_at, changed_by}
 use Rattle.alta_session.specs.declared.session.Session.{Session}

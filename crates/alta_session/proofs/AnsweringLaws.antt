@@ -8,9 +8,9 @@ use Rattle.alta_loading.specs.Kept.{AreKept, IsNoneKept}
 use Rattle.alta_loading.specs.declared.kept.KeptLists.{KeptLists}
 use Rattle.alta_loading.proofs.KeptLaws.{kept_stays, none_kept}
 use Rattle.alta_machine.specs.declared.document.State.{State}
-use Rattle.alta_search.specs.Open.{AreOpen}
+use Rattle.alta_cursors.specs.Open.{AreOpen}
 use Rattle.alta_machine.specs.OpenAnswers.{OpenAnswers}
-use Rattle.alta_search.specs.declared.cursors.OpenCursor.{OpenCursor}
+use Rattle.alta_cursors.specs.declared.cursors.OpenCursor.{OpenCursor}
 use Rattle.alta_session.specs.Agreement.{AgreesOn}
 use Rattle.alta_session.specs.Answering.{CanAnswer, AnswersFrom, Answers, SpeaksFrom}
 use Rattle.alta_replies.specs.Loading.{KeptHolds}

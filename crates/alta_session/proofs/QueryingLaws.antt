@@ -16,12 +16,12 @@ use Rattle.alta_machine.specs.Queries.{query_of}
 use Rattle.alta_machine.specs.Shape.{Shape}
 use Rattle.alta_machine.specs.Ranked.{ranked}
 use Rattle.alta_machine.specs.Uses.{uses_of}
-use Rattle.alta_search.specs.Open.{AreOpen}
+use Rattle.alta_cursors.specs.Open.{AreOpen}
 use Rattle.alta_machine.specs.OpenAnswers.{OpenAnswers, least_free, with_opened}
 use Rattle.alta_machine.specs.Scores.{scored}
-use Rattle.alta_search.specs.declared.cursors.OpenCursor.{OpenCursor}
+use Rattle.alta_cursors.specs.declared.cursors.OpenCursor.{OpenCursor}
 use Rattle.alta_machine.specs.declared.cursors.TheConstants.{CURSORS}
-use Rattle.alta_search.proofs.CursorAnswers.{same_length}
+use Rattle.alta_cursors.proofs.CursorAnswers.{same_length}
 use Rattle.alta_session.specs.Answering.{Answers, CanAnswer}
 use Rattle.alta_machine.specs.Cursors.{Turn, opening, opened_by}
 use Rattle.alta_replies.specs.Turns.{Turns}

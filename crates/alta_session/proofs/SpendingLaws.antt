@@ -7,9 +7,9 @@ use Rattle.alta_disk.specs.Disk.{DiskState, Only}
 use Rattle.alta_loading.specs.Loads.{load_sizes}
 use Rattle.alta_machine.specs.Command.{Command, adds, deletes, searches, counts, explains, opens, fetches, closes, ranks, flushes, merges, steps, asks_stats, dumps}
 use Rattle.alta_machine.specs.Lines.{Reading, asks, refuses, reading_of}
-use Rattle.alta_search.specs.Open.{AreOpen}
+use Rattle.alta_cursors.specs.Open.{AreOpen}
 use Rattle.alta_machine.specs.OpenAnswers.{OpenAnswers}
-use Rattle.alta_search.specs.declared.cursors.OpenCursor.{OpenCursor}
+use Rattle.alta_cursors.specs.declared.cursors.OpenCursor.{OpenCursor}
 use Rattle.alta_session.specs.Keeping.{clip}
 use Rattle.alta_replies.specs.Loading.{Loads, line_loads, loads_in, newest_in}
 use Rattle.alta_session.specs.Spending.{session_loads}

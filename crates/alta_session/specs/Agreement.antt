@@ -1,7 +1,7 @@
 -- What a session means.
 use Rattle.std.specs.Prelude.{◌≡◌, true}
 use Rattle.alta_disk.specs.Disk.{DiskState}
-use Rattle.alta_search.specs.Open.{AreOpen}
+use Rattle.alta_cursors.specs.Open.{AreOpen}
 use Rattle.alta_machine.specs.Machine.{Machine}
 use Rattle.alta_session.specs.declared.session.Session.{Session}
 use Rattle.alta_store.specs.Agreement.{Agrees, MaySpeakOf, is_sound}

@@ -25,13 +25,13 @@ ghost use Rattle.alta_machine.specs.Changes.{has_name};
 ghost use Rattle.alta_meaning.specs.Work.{flushes, merges, steps};
 
 use alta_codec::{Text, name_ok};
+use alta_cursors::Cursors;
 use alta_disk::Disk;
 use alta_layout::Slot;
 use alta_loading::KeptLists;
 use alta_machine::LineFault;
 use alta_model::{Line, read_line};
 use alta_replies::{close, count, dump, explain, fetch, open, rank, search, text};
-use alta_search::Cursors;
 use alta_store::{Store, StoreFault};
 use memchr::memchr;
 use std::alloc::Global;

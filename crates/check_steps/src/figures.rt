@@ -12,8 +12,9 @@ ghost use Rattle.alta_search.specs.View.{Shows};
 
 use alta_codec::Steps;
 use alta_compile::Plan;
+use alta_cursors::Cursor;
 use alta_query::Query;
-use alta_search::{Cursor, Page, Snapshot, search};
+use alta_search::{Page, Snapshot, search};
 use std::alloc::{AllocError, Global};
 use std::sync::ledger::Ledger;
 

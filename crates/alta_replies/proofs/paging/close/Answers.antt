@@ -1,7 +1,7 @@
 use Rattle.std.proofs.Common.{sym, subst, ◌∙◌, List, rules}
 use Rattle.std.proofs.lemmas.Bool.{false≢true}
-use Rattle.alta_search.specs.Open.{AreOpen}
-use Rattle.alta_search.specs.declared.cursors.OpenCursor.{OpenCursor}
+use Rattle.alta_cursors.specs.Open.{AreOpen}
+use Rattle.alta_cursors.specs.declared.cursors.OpenCursor.{OpenCursor}
 use Rattle.alta_replies.proofs.CursorLaws.{close_had, close_none}
 use Rattle.alta_replies.proofs.paging.close.Goals as goal
 

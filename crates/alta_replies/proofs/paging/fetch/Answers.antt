@@ -1,10 +1,10 @@
 use Rattle.std.proofs.Common.{List, refl, sym, subst, rules}
 use Rattle.std.specs.Prelude.{Option, IsNone}
 use Rattle.std.proofs.lemmas.Result.{IfOk-weaker}
-use Rattle.alta_search.specs.Open.{AreOpen, IsFetched}
+use Rattle.alta_cursors.specs.Open.{AreOpen, IsFetched}
 use Rattle.alta_machine.specs.OpenAnswers.{left_of}
 use Rattle.alta_search.specs.declared.page.Page.{Page}
-use Rattle.alta_search.specs.declared.cursors.OpenCursor.{OpenCursor}
+use Rattle.alta_cursors.specs.declared.cursors.OpenCursor.{OpenCursor}
 use Rattle.alta_machine.specs.Machine.{IsRefusal}
 use Rattle.alta_replies.proofs.CursorLaws.{fetch_none, fetch_page, no_refusal, page_other}
 use Rattle.alta_replies.proofs.SearchLaws.{is_written}

@@ -9,7 +9,7 @@ use Rattle.alta_machine.specs.Lines.{Reading, asks, refuses}
 use Rattle.alta_model.specs.Seen.{command_of}
 use Rattle.alta_model.specs.declared.line.Line.{Line}
 use Rattle.alta_model.specs.declared.line.Line.TheVariants.{Add, Delete, Search, Count, Explain, OpenCursor, Fetch, Close, Top, Flush, Merge, Step, Stats, Dump}
-use Rattle.alta_search.specs.Open.{AreOpen}
+use Rattle.alta_cursors.specs.Open.{AreOpen}
 use Rattle.alta_machine.specs.declared.cursors.TheConstants.{CURSORS}
 use Rattle.alta_machine.specs.Cursors.{opening, fetching, closing}
 use Rattle.alta_replies.specs.Loading.{Loads, loads_in, newest_in, open_loads, order_loads, text_loads, top_text_loads}

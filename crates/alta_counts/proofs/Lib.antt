@@ -1,0 +1,12 @@
+pub mod Asking
+pub mod ByLevel
+pub mod Cutting
+pub mod Counted
+pub mod Either
+pub mod CodedReaders
+pub mod LevelWalks
+pub mod Levels
+pub mod Stems
+pub mod Tallying
+pub mod Titled
+pub mod Windows

@@ -1,0 +1,2 @@
+pub mod CursorAnswers
+pub mod CursorNumbers

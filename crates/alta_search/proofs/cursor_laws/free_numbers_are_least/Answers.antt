@@ -1,5 +1,0 @@
-use Rattle.alta_search.proofs.CursorNumbers.{least_is}
-use Rattle.alta_search.proofs.cursor_laws.free_numbers_are_least.Goals as goal
-
-pub returns : goal.returns
-returns c = least_is

@@ -1,5 +1,0 @@
-use Rattle.alta_search.proofs.Titled.{title_finds}
-use Rattle.alta_search.proofs.laws.a_title_finds_its_word.Goals as goal
-
-pub returns : goal.returns
-returns c = title_finds

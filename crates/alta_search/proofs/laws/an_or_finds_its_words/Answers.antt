@@ -1,5 +1,0 @@
-use Rattle.alta_search.proofs.Either.{either_finds}
-use Rattle.alta_search.proofs.laws.an_or_finds_its_words.Goals as goal
-
-pub returns : goal.returns
-returns c = either_finds
