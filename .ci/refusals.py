@@ -19,7 +19,7 @@ import re
 import subprocess
 import sys
 
-MOST = 28
+MOST = 29
 
 TRIED = re.compile(r"(?:rt: )?must-fail (\w+)/([\w.-]+)\.edit: (.*)")
 KEPT = re.compile(r"(?:rt: )?\w+: (\d+) of its \d+ must-fail edits were tried by an earlier run on this machine")
