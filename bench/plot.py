@@ -6,8 +6,9 @@ usage: bench/plot.py [--check]
 With --check nothing is written; it ends with status 1 where a picture is not the one of its figures.
 
 A file of figures is JSON: `title`, `command` (what made them), `machine`, and `panels`. A panel has a `title`, its `kind` (`bars` or
-`lines`), the `unit` of its values, the names of its `series`, and `rows`: a label, or for lines a number, and then a value of each series,
-or null. Bars lie; lines are drawn over `across`, what their numbers are. Pictures follow the reader's light or dark theme, by a media query.
+`lines`), the `unit` of its values, empty for a number alone, the names of its `series`, and `rows`: a label, or for lines a number, and
+then a value of each series, or null. Bars lie; lines are drawn over `across`, what their numbers are. Pictures follow the reader's light
+or dark theme, by a media query.
 """
 
 import argparse
@@ -157,7 +158,7 @@ def figures_drawn(figures):
     marks = [text(MARGIN, y - 4, figures["title"], "title")]
     for panel in figures["panels"]:
         y += LINE
-        marks.append(text(MARGIN, y, f"{panel['title']} ({panel['unit']})"))
+        marks.append(text(MARGIN, y, f"{panel['title']} ({panel['unit']})" if panel["unit"] else panel["title"]))
         drawn = KINDS[panel["kind"]](panel, y + LINE)
         marks += drawn.marks
         y += LINE + drawn.height + LINE
