@@ -76,15 +76,18 @@ def short(value):
     return f"{value:.0f}" if value >= 100 else f"{value:.3g}"
 
 
-def legend(panel, y):
-    """The names of the series that have a value in some row, each beside its colour."""
-    marks, x = [], MARGIN
+def legend(panel, top):
+    """The names of the series that have a value in some row, each beside its colour, in as many lines as they take."""
+    marks, x, y = [], MARGIN, top
     for place, (name, style) in enumerate(zip(panel["series"], COLOURS), 1):
         if all(row[place] is None for row in panel["rows"]):
             continue
+        wide = 30 + 7.5 * len(name)
+        if x + wide > WIDTH:
+            x, y = MARGIN, y + LINE
         marks += [rectangle(x, y - 9, 10, 10, style), text(x + 15, y, name)]
-        x += 30 + 7.5 * len(name)
-    return marks
+        x += wide
+    return Drawn(marks, y + LINE - top)
 
 
 def steps_up_to(most):
@@ -102,7 +105,8 @@ def steps_up_to(most):
 
 def bars(panel, top):
     """A row for each label, in it a bar for each series that has a value there."""
-    marks, y = legend(panel, top), top + LINE
+    marks, height = legend(panel, top)
+    begin = y = top + height
     most = max(value for row in panel["rows"] for value in row[1:] if value is not None)
     left, wide = LABELS, WIDTH - LABELS - 90
     for label, *values in panel["rows"]:
@@ -113,20 +117,20 @@ def bars(panel, top):
             marks += [text(left + wide * value / most + 5, y + BAR - 2, f"{short(value)} {panel['unit']}", "quiet")]
             y += BAR
         y += 7
-    marks.append(stroke(left, top + LINE - 4, left, y, "axis"))
+    marks.append(stroke(left, begin - 4, left, y, "axis"))
     return Drawn(marks, y - top)
 
 
 def lines(panel, top):
     """A line for each series over the numbers of its rows."""
-    left, bottom = 60, top + LINE + PANEL
+    marks, height = legend(panel, top)
+    left, bottom = 60, top + height + PANEL
     wide, ups = WIDTH - left - 60, steps_up_to(max(value for row in panel["rows"] for value in row[1:] if value is not None))
     furthest = max(row[0] for row in panel["rows"])
 
     def at(across, up):
         return left + wide * across / furthest, bottom - PANEL * up / ups[-1]
 
-    marks = legend(panel, top)
     for up in ups:
         marks += [stroke(*at(0, up), *at(furthest, up), "grid"), text(left - 6, at(0, up)[1] + 4, short(up), "quiet", "end")]
     for row in panel["rows"]:

@@ -7,7 +7,7 @@ import shlex
 import sqlite3
 import sys
 
-PLACES = ("--program", "--folder", "--lines", "--log", "--pid", "--to", "--record")  # options whose value is a place of this machine
+PLACES = ("--program", "--folder", "--lines", "--log", "--pid", "--to", "--record", "--before")  # options whose value is a place of this machine
 
 
 def machine():
