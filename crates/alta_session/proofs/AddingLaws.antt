@@ -12,8 +12,10 @@ use Rattle.alta_machine.specs.Command.{ReadsLine, adds}
 use Rattle.alta_machine.specs.LineFaults.{IsText}
 use Rattle.alta_codec.proofs.NameLaws.{name_is, name_is_not}
 use Rattle.alta_machine.specs.Machine.{adding, put_as, IsRefusal}
-use Rattle.alta_session.proofs.DeletingLaws.{not_numbered, numbered}
-use Rattle.alta_machine.specs.Changes.{has_name, number_of, with_added, with_replaced}
+use Rattle.alta_session.proofs.DeletingLaws.{not_numbered}
+use Rattle.alta_session.specs.Tasks.{reply_to_put}
+use Rattle.alta_store.specs.Calls.{with_put}
+use Rattle.alta_machine.specs.Changes.{has_name, number_of, with_added}
 use Rattle.alta_meaning.specs.Entries.{IsDocument}
 
 -- what adding answers
@@ -49,37 +51,31 @@ adding_puts name title body s o named is room =
 pub adding_added : (name title body : List ℕ) (s : State) → IsName name → has_name name s ≡ false → s.next < 4294967296 → adding name title body s ≡ (with_added name title body s, codes "added " ++ decimal s.next ++ codes "\n")
 adding_added name title body s named free room = adding_puts name title body s None named (not_numbered name s free) room
 
-pub adding_replaced : (name title body : List ℕ) (s : State) (n : ℕ) → IsName name → number_of name s ≡ Some n → s.next < 4294967296
-    → adding name title body s ≡ (with_replaced name title body s, codes "replaced " ++ decimal n ++ codes " by " ++ decimal s.next ++ codes "\n")
-adding_replaced name title body s n named is room = adding_puts name title body s (Some n) named is room
+pub adding_put : (name title body : List ℕ) (s : State) (o : Option ℕ) → IsName name → number_of name s ≡ o → s.next < 4294967296 → adding name title body s ≡ (with_put o name title body s, reply_to_put o s.next)
+adding_put name title body s None named is room = adding_puts name title body s None named is room
+adding_put name title body s (Some n) named is room = adding_puts name title body s (Some n) named is room
 
 -- at no moment was there another image than those of the states before and after
 pub leaves_adding : (Either : State → State → List ℕ → Type 0) (d d_now : DiskState) (s t : State) (change : State × List ℕ) (reply : List ℕ) → change ≡ (t, reply) → LeavesOnly (Either s t) d d_now → LeavesOnly (Either s change.0) d d_now
 leaves_adding Either d d_now s t change reply is leaves = subst (λ (u : State). LeavesOnly (Either s u) d d_now) (sym (ap (λ (p : State × List ℕ). p.0) is)) leaves
 
 -- what was added is no refusal
-pub added_is_none : (n : ℕ) → IsRefusal (codes "added " ++ decimal n ++ codes "\n") → ⊥
+added_is_none : (n : ℕ) → IsRefusal (codes "added " ++ decimal n ++ codes "\n") → ⊥
 added_is_none n refusal = cc
 
-pub replaced_is_none : (m n : ℕ) → IsRefusal (codes "replaced " ++ decimal m ++ codes " by " ++ decimal n ++ codes "\n") → ⊥
+replaced_is_none : (m n : ℕ) → IsRefusal (codes "replaced " ++ decimal m ++ codes " by " ++ decimal n ++ codes "\n") → ⊥
 replaced_is_none m n refusal = cc
+
+pub put_is_none : (o : Option ℕ) (n : ℕ) → IsRefusal (reply_to_put o n) → ⊥
+put_is_none None n refusal = added_is_none n refusal
+put_is_none (Some m) n refusal = replaced_is_none m n refusal
 
 pub not_refused : (change : State × List ℕ) (t : State) (reply : List ℕ) → change ≡ (t, reply) → (IsRefusal reply → ⊥) → IsRefusal change.1 → ⊥
 not_refused change t reply is none refusal = none (subst (λ (p : State × List ℕ). IsRefusal p.1) is refusal)
 
 -- where nothing refuses it
-pub room_left : (name : List ℕ) (s : State) → (has_name name s ≡ true → ⊥) → ((has_name name s ≡ false) × (4294967296 ≤ s.next) → ⊥) → (has_name name s ≡ false) × (s.next < 4294967296)
-room_left name s not_taken not_full =
-    elim (has_name name s) as (λ b. has_name name s ≡ b → (has_name name s ≡ false) × (s.next < 4294967296)) [
-      | true ↦ λ taken. absurd (not_taken taken)
-      | false ↦ λ free. elim (cases_lt s.next 4294967296) [ inl room ↦ (free, room) | inr none ↦ absurd (not_full (free, none)) ]
-    ] refl
-
--- and where a live document has the name
-pub number_left : (name : List ℕ) (s : State) → has_name name s ≡ true → ((has_name name s ≡ true) × (4294967296 ≤ s.next) → ⊥) → (n : ℕ) × (number_of name s ≡ Some n) × (s.next < 4294967296)
-number_left name s taken not_full =
-    let n = numbered name s taken in
-    elim (cases_lt s.next 4294967296) [ inl room ↦ (n.0, n.1, room) | inr none ↦ absurd (not_full (taken, none)) ]
+pub room_left : (s : State) → (4294967296 ≤ s.next → ⊥) → s.next < 4294967296
+room_left s not_full = elim (cases_lt s.next 4294967296) [ inl room ↦ room | inr none ↦ absurd (not_full none) ]
 
 -- the parts of a line that adds
 abbrev IsOther : ℕ → Type 0

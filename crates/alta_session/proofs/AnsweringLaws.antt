@@ -134,17 +134,6 @@ pub answers_same : {D : Type 0} (tells : Type 0) (state : D → DiskState) (disk
 answers_same {D} tells state disk disk_now session session_now result steps tasks same_disk same_session answers =
     subst (λ (d : D). Answers tells state disk d session session_now result steps tasks) (sym same_disk) (subst (λ (x : Session). Answers tells state disk disk session x result steps tasks) (sym same_session) answers)
 
--- where they were so before
-pub answers_from : {D : Type 0} (tells : Type 0) (state : D → DiskState) (disk disk_was disk_now : D) (session session_was session_now : Session) (result : Result (List ℕ) StoreFault) (steps : Machine → Machine × List ℕ) (tasks : Machine → Option Task) → disk_was ≡ disk → session_was ≡ session
-    → Answers tells state disk_was disk_now session_was session_now result steps tasks → Answers tells state disk disk_now session session_now result steps tasks
-answers_from {D} tells state disk disk_was disk_now session session_was session_now result steps tasks same_disk same_session answers =
-    subst (λ (d : D). Answers tells state d disk_now session session_now result steps tasks) same_disk (subst (λ (x : Session). Answers tells state disk_was disk_now x session_now result steps tasks) same_session answers)
-
--- it may answer then as before
-pub can_from : {D : Type 0} (tells : Type 0) (state : D → DiskState) (disk disk_was : D) (session session_was : Session) → disk_was ≡ disk → session_was ≡ session → CanAnswer tells (state disk) session → CanAnswer tells (state disk_was) session_was
-can_from {D} tells state disk disk_was session session_was same_disk same_session can =
-    subst (λ (d : D). CanAnswer tells (state d) session_was) (sym same_disk) (subst (λ (x : Session). CanAnswer tells (state disk) x) (sym same_session) can)
-
 -- by another name of the step and of the task
 pub answers_by : {D : Type 0} (tells : Type 0) (state : D → DiskState) (disk disk_now : D) (session session_now : Session) (result : Result (List ℕ) StoreFault) (steps by : Machine → Machine × List ℕ) (tasks asks : Machine → Option Task)
     → ((m : Machine) → steps m ≡ by m) → ((m : Machine) → tasks m ≡ asks m) → Answers tells state disk disk_now session session_now result steps tasks → Answers tells state disk disk_now session session_now result by asks

@@ -71,11 +71,6 @@ works_still tells state disk store reading result memory told = record {
   replies = told;
 }
 
--- from a disk and a store that were as these
-pub works_from : {D : Type 0} (tells : Type 0) (state : D → DiskState) (disk disk_was disk_now : D) (store store_was : Store) (reading : Reading) (result : Result (List ℕ) StoreFault) → disk_was ≡ disk → store_was ≡ store → Works tells state disk_was disk_now store_was reading result → Works tells state disk disk_now store reading result
-works_from {D} tells state disk disk_was disk_now store store_was reading result same_disk same_store works =
-    subst (λ (d : D). Works tells state d disk_now store reading result) same_disk (subst (λ (x : Store). Works tells state disk_was disk_now x reading result) same_store works)
-
 -- it was done, and memory alone may have been wanting behind it
 pub works_done : {D : Type 0} (tells : Type 0) (state : D → DiskState) (disk disk_now : D) (store : Store) (reading : Reading) (result : Result (List ℕ) StoreFault) → IfErr result (λ e. e ≡ Memory) → (IdlesIn store reading → disk_now ≡ disk) → HasReply store reading result → Works tells state disk disk_now store reading result
 works_done tells state disk disk_now store reading result memory idle told = record {

@@ -6,9 +6,9 @@ use Rattle.alta_meaning.specs.Work.{Task}
 use Rattle.alta_meaning.specs.Working.{worked}
 use Rattle.alta_session.specs.Tasks.{IsWorked, worked_where}
 use Rattle.alta_store.specs.Answers.{IsOutside}
-use Rattle.alta_store.specs.Calls.{IsCause, IsNarrow, NoRefusal, RefusesAdd, RefusesReplace}
+use Rattle.alta_store.specs.Calls.{IsCause, IsNarrow, NoRefusal, RefusesPut}
 use Rattle.alta_store.specs.declared.fault.StoreFault.{StoreFault}
-use Rattle.alta_store.specs.declared.fault.StoreFault.TheVariants.{Damaged, Missing, Taken, Numbers, Full}
+use Rattle.alta_store.specs.declared.fault.StoreFault.TheVariants.{Damaged, Numbers, Full}
 
 -- what is held behind a call that did its task, and the place that one wants that found none
 pub obeyed_works : (limit : ℕ) (held : Holding) (task : Task) (asked : Option Task) (Here : Holding → Type 0) → asked ≡ Some task → (now : Holding) × (worked limit held task ≡ Ok now) × Here now → IsWorked (worked_where limit held asked) Here
@@ -28,18 +28,9 @@ some_only e (inr (inl none)) = absurd none
 some_only e (inr (inr (inl full))) = inr (inl full)
 some_only e (inr (inr (inr damaged))) = inr (inr damaged)
 
--- those of an addition
-pub add_only : (e : StoreFault) → IsCause RefusesAdd e → (e ≡ Taken → ⊥) → (e ≡ Numbers → ⊥) → IsOutside e ⊎ (((need gap : ℕ) × (e ≡ Full need gap)) ⊎ ((place : ℕ) × (e ≡ Damaged place)))
-add_only e (inl outside) taken numbers = inl outside
-add_only e (inr (inl (inl is))) taken numbers = absurd (taken is)
-add_only e (inr (inl (inr is))) taken numbers = absurd (numbers is)
-add_only e (inr (inr (inl full))) taken numbers = inr (inl full)
-add_only e (inr (inr (inr damaged))) taken numbers = inr (inr damaged)
-
--- and of a replacement
-pub replace_only : (e : StoreFault) → IsCause RefusesReplace e → (e ≡ Missing → ⊥) → (e ≡ Numbers → ⊥) → IsOutside e ⊎ (((need gap : ℕ) × (e ≡ Full need gap)) ⊎ ((place : ℕ) × (e ≡ Damaged place)))
-replace_only e (inl outside) missing numbers = inl outside
-replace_only e (inr (inl (inl is))) missing numbers = absurd (missing is)
-replace_only e (inr (inl (inr is))) missing numbers = absurd (numbers is)
-replace_only e (inr (inr (inl full))) missing numbers = inr (inl full)
-replace_only e (inr (inr (inr damaged))) missing numbers = inr (inr damaged)
+-- those of a document that is put
+pub put_only : (e : StoreFault) → IsCause RefusesPut e → (e ≡ Numbers → ⊥) → IsOutside e ⊎ (((need gap : ℕ) × (e ≡ Full need gap)) ⊎ ((place : ℕ) × (e ≡ Damaged place)))
+put_only e (inl outside) numbers = inl outside
+put_only e (inr (inl is)) numbers = absurd (numbers is)
+put_only e (inr (inr (inl full))) numbers = inr (inl full)
+put_only e (inr (inr (inr damaged))) numbers = inr (inr damaged)

@@ -10,12 +10,13 @@ use Rattle.alta_meaning.specs.Holding.{Holding}
 use Rattle.alta_machine.specs.Changes.{has_name, number_of}
 use Rattle.alta_meaning.specs.Work.{Task, enters}
 use Rattle.alta_meaning.specs.Working.{Full}
-use Rattle.alta_journal.specs.declared.entry.Entry.TheVariants.{Add, Delete, Replace}
+use Rattle.alta_journal.specs.declared.entry.Entry.TheVariants.{Delete}
 use Rattle.alta_machine.specs.declared.document.State.{State}
 use Rattle.alta_machine.specs.Lines.{Reading, reading_of}
 use Rattle.alta_session.specs.Keeping.{clip}
 use Rattle.alta_machine.specs.Machine.{Machine, step, machine_after}
-use Rattle.alta_session.specs.Tasks.{entry_for, task_of_add, task_of_delete, task_in, task_of, worked_where, worked_line, worked_lines, IsBy, IsOn, IsWorked}
+use Rattle.alta_store.specs.Calls.{entry_for}
+use Rattle.alta_session.specs.Tasks.{task_of_add, task_of_delete, task_in, task_of, worked_where, worked_line, worked_lines, IsBy, IsOn, IsWorked}
 use Rattle.alta_session.specs.declared.session.Session.{Session}
 use Rattle.alta_session.proofs.DeletingLaws.{not_numbered}
 use Rattle.alta_session.proofs.MachineLaws.{reading_clip, step_clip}
@@ -55,17 +56,11 @@ pub add_full : (name title body : List ℕ) (s : State) → 4294967296 ≤ s.nex
 unfolding task_of_add
 add_full name title body s full = where_false (enters (entry_for (number_of name s) name title body)) _ (none_second (is_name name) (nat_lt s.next 4294967296) (not_less s.next 4294967296 full))
 
-add_puts : (name title body : List ℕ) (s : State) (o : Option ℕ) → IsName name → number_of name s ≡ o → s.next < 4294967296 → task_of_add name title body s ≡ Some (enters (entry_for o name title body))
+pub add_puts : (name title body : List ℕ) (s : State) (o : Option ℕ) → IsName name → number_of name s ≡ o → s.next < 4294967296 → task_of_add name title body s ≡ Some (enters (entry_for o name title body))
 unfolding task_of_add
 add_puts name title body s o named is room =
     where_true (enters (entry_for (number_of name s) name title body)) _ (both (is_name name) (nat_lt s.next 4294967296) (name_is name named) (is_less s.next 4294967296 room))
     ∙ ap (λ (p : Option ℕ). Some (enters (entry_for p name title body))) is
-
-pub add_enters : (name title body : List ℕ) (s : State) → IsName name → has_name name s ≡ false → s.next < 4294967296 → task_of_add name title body s ≡ Some (enters (Add name title body))
-add_enters name title body s named free room = add_puts name title body s None named (not_numbered name s free) room
-
-pub add_replaces : (name title body : List ℕ) (s : State) (number : ℕ) → IsName name → number_of name s ≡ Some number → s.next < 4294967296 → task_of_add name title body s ≡ Some (enters (Replace number name title body))
-add_replaces name title body s number named is room = add_puts name title body s (Some number) named is room
 
 -- ---- the task of a line that deletes
 abbrev of_number : Option ℕ → Option Task

@@ -1,5 +1,5 @@
 -- What a line asks of the store, and what its work on levels makes of what a store holds.
-use Rattle.std.specs.Prelude.{◌≡◌, ◌&&◌, ℕ, List, [], ◌∷◌, if◌then◌else◌, nat_lt, Option, Some, None, option_map, Result, Ok}
+use Rattle.std.specs.Prelude.{◌≡◌, ◌&&◌, ℕ, List, [], ◌∷◌, ◌++◌, codes, decimal, if◌then◌else◌, nat_lt, Option, Some, None, option_map, Result, Ok}
 use Rattle.alta_codec.specs.Name.{is_name}
 use Rattle.alta_disk.specs.Disk.{DiskState, Only}
 use Rattle.alta_meaning.specs.Chain.{◌>>=◌}
@@ -7,19 +7,19 @@ use Rattle.alta_meaning.specs.Holding.{Holding, IsHeld}
 use Rattle.alta_machine.specs.Changes.{number_of}
 use Rattle.alta_meaning.specs.Work.{Task, enters, flushes, merges, steps}
 use Rattle.alta_meaning.specs.Working.{Full, worked}
-use Rattle.alta_journal.specs.declared.entry.Entry.{Entry}
-use Rattle.alta_journal.specs.declared.entry.Entry.TheVariants.{Add, Delete, Replace}
+use Rattle.alta_journal.specs.declared.entry.Entry.TheVariants.{Delete}
 use Rattle.alta_machine.specs.declared.document.State.{State}
 use Rattle.alta_machine.specs.Command.{Command, adds, deletes, searches, counts, explains, opens, fetches, closes, ranks, flushes as asks_flush, merges as asks_merge, steps as asks_step, asks_stats, dumps}
 use Rattle.alta_machine.specs.Lines.{Reading, asks, refuses, reading_of}
 use Rattle.alta_machine.specs.Machine.{Machine, step}
 use Rattle.alta_session.specs.declared.session.Session.{Session}
 use Rattle.alta_store.specs.Agreement.{Has}
+use Rattle.alta_store.specs.Calls.{entry_for}
 
--- the entry that puts a document in the place of the live one with this number, or adds it where there is none
-abbrev pub entry_for : Option ℕ → List ℕ → List ℕ → List ℕ → Entry
-entry_for None name title body = Add name title body
-entry_for (Some n) name title body = Replace n name title body
+-- the reply to a document that was put with a number, in place of the one with another or not
+abbrev pub reply_to_put : Option ℕ → ℕ → List ℕ
+reply_to_put None number = codes "added " ++ decimal number ++ codes "\n"
+reply_to_put (Some old) number = codes "replaced " ++ decimal old ++ codes " by " ++ decimal number ++ codes "\n"
 
 -- the entry of a document, where its name can be one and a number is left
 unfoldable pub task_of_add : List ℕ → List ℕ → List ℕ → State → Option Task

@@ -15,13 +15,12 @@ ghost use Rattle.alta_replies.specs.Loading.{Loads};
 ghost use Rattle.alta_session.specs.Spending.{session_loads};
 ghost use Rattle.alta_machine.specs.Machine.{Machine, started_at, step, changed_by, adding, deleting, refusal, Looks, Searches};
 ghost use Rattle.alta_session.specs.Spending.{OnlyReads};
-ghost use Rattle.alta_session.specs.Tasks.{task_of, task_of_add, task_of_delete};
-ghost use Rattle.alta_store.specs.Agreement.{Keeps, Knows};
+ghost use Rattle.alta_session.specs.Tasks.{reply_to_put, task_of, task_of_add, task_of_delete};
+ghost use Rattle.alta_store.specs.Agreement.{Keeps};
 ghost use Rattle.alta_store.specs.Opening.{Opens};
 ghost use Rattle.alta_meaning.specs.Opened.{Opened, IsOpened};
 ghost use Rattle.alta_meaning.specs.Standing.{StandsFor};
 ghost use Rattle.alta_meaning.specs.Entries.{IsDocument};
-ghost use Rattle.alta_machine.specs.Changes.{has_name};
 ghost use Rattle.alta_meaning.specs.Work.{flushes, merges, steps};
 
 use alta_codec::{Text, name_ok};
@@ -32,7 +31,7 @@ use alta_loading::KeptLists;
 use alta_machine::LineFault;
 use alta_model::{Line, read_line};
 use alta_replies::{close, count, dump, explain, fetch, open, rank, search, text};
-use alta_store::{Store, StoreFault};
+use alta_store::{Put, Store, StoreFault};
 use memchr::memchr;
 use std::alloc::Global;
 
@@ -203,42 +202,10 @@ impl Session {
             return text(alloc, "! bad name\n");
         }
         let before = self.store.slot();
-        match self.store.add(disk, name, title, body) {
-            Ok(number) => {
+        match self.store.put_document(disk, name, title, body) {
+            Ok(put) => {
                 forget_left(&mut self.kept, &self.store, before);
-                added(alloc, number)
-            }
-            Err(fault) => match fault {
-                StoreFault::Taken => self.replace(alloc, disk, name, title, body),
-                StoreFault::Numbers => text(alloc, "! no numbers left\n"),
-                fault => Err(fault),
-            },
-        }
-    }
-
-    // Puts a document in the place of the live one with its name.
-    fn replace<D: Disk>(
-        &mut self,
-        alloc: Global,
-        disk: &mut D,
-        name: &str,
-        title: &str,
-        body: &str,
-    ) -> Result<Text, StoreFault>
-        requires document { IsDocument name.now title.now body.now }
-        requires taken { (s : State) → Knows self.old.store s → has_name name.now s ≡ true }
-        requires can { CanAnswer D.tells (D.state disk.old) self.old }
-        ensures answers { Answers D.tells D.state disk.old disk.new self.old self.new result
-            (λ m. changed_by m (adding name.now title.now body.now m.state))
-            (λ m. task_of_add name.now title.now body.now m.state) }
-        ensures works { Works D.tells D.state disk.old disk.new self.old.store
-            (asks (adds name.now title.now body.now)) result }
-    {
-        let before = self.store.slot();
-        match self.store.replace(disk, name, title, body) {
-            Ok(numbers) => {
-                forget_left(&mut self.kept, &self.store, before);
-                replaced(alloc, numbers)
+                put_reply(alloc, put)
             }
             Err(fault) => match fault {
                 StoreFault::Numbers => text(alloc, "! no numbers left\n"),
@@ -384,7 +351,17 @@ fn refusal_of(fault: LineFault) -> &'static str
     }
 }
 
-// The reply to a line that adds.
+// The reply to a line that adds, in place of another document or not.
+fn put_reply(alloc: Global, put: Put) -> Result<Text, StoreFault>
+    ensures { IsReply (reply_to_put put.replaced put.number) result }
+{
+    match put.replaced {
+        None => added(alloc, put.number),
+        Some(old) => replaced(alloc, (old, put.number)),
+    }
+}
+
+// The reply to a document that was added.
 fn added(alloc: Global, number: u64) -> Result<Text, StoreFault>
     ensures { IsReply (codes "added " ++ decimal number ++ codes "\n") result }
 {
@@ -394,7 +371,7 @@ fn added(alloc: Global, number: u64) -> Result<Text, StoreFault>
     }
 }
 
-// The reply to a line that adds in place of another document: the numbers of the one before and of the new one.
+// The reply to one that came in place of another: the numbers of the one before and of the new one.
 fn replaced(alloc: Global, numbers: (u64, u64)) -> Result<Text, StoreFault>
     ensures { IsReply (codes "replaced " ++ decimal numbers.0 ++ codes " by " ++ decimal numbers.1
         ++ codes "\n") result }

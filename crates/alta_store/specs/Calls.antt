@@ -23,7 +23,9 @@ use Rattle.alta_joins.specs.Contents.{AreSegmentsOn, data_size}
 use Rattle.alta_joins.specs.Damages.{IsFirstDamage}
 use Rattle.alta_journal.specs.Record.{body_of}
 use Rattle.alta_journal.specs.declared.entry.Entry.{Entry}
+use Rattle.alta_journal.specs.declared.entry.Entry.TheVariants.{Add, Replace}
 use Rattle.alta_merge.specs.Merging.{Merging}
+use Rattle.alta_machine.specs.Changes.{with_added, with_replaced}
 use Rattle.alta_machine.specs.declared.document.State.{State}
 use Rattle.alta_rewrite.specs.Drafts.{rewrite_places}
 use Rattle.alta_rewrite.specs.Rewrites.{HaveRows, IsComing, IsGiven, Replaces, no_content}
@@ -311,6 +313,20 @@ abbrev pub Enters : {T : Type 0} → Type 0 → Entry → (State → State) → 
 Enters tells entry step before after store later result =
     Changes tells (λ limit held. Ok (entered held entry)) (λ limit o outcome. outcome
     ≡ Ok (with_entry o entry)) step NoRefusal 0 [] before after store later result
+
+-- the entry that puts a document in the place of the live one with this number, or adds it where there is none
+abbrev pub entry_for : Option ℕ → List ℕ → List ℕ → List ℕ → Entry
+entry_for None name title body = Add name title body
+entry_for (Some n) name title body = Replace n name title body
+
+-- and the state behind it
+abbrev pub with_put : Option ℕ → List ℕ → List ℕ → List ℕ → State → State
+with_put None name title body s = with_added name title body s
+with_put (Some n) name title body s = with_replaced name title body s
+
+-- no number is left
+abbrev pub RefusesPut : StoreFault → Type 0
+RefusesPut fault = fault ≡ faults.Numbers
 
 -- the name is taken, or no number is left
 abbrev pub RefusesAdd : StoreFault → Type 0

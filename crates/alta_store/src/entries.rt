@@ -9,7 +9,7 @@ ghost use Rattle.alta_journal.specs.Lent.{entry_of};
 ghost use Rattle.alta_journal.specs.declared.entry.Entry.TheVariants.{Add, Delete, Replace};
 ghost use Rattle.alta_machine.specs.declared.document.State.{State};
 ghost use Rattle.alta_store.specs.Agreement.{Agrees, Knows, is_sound};
-ghost use Rattle.alta_store.specs.Calls.{Enters, IsStepFrom, IsStepOf, MakesRoom, NoRefusal, Obeys, RefusesAdd, RefusesReplace, needs_room};
+ghost use Rattle.alta_store.specs.Calls.{Enters, IsStepFrom, IsStepOf, MakesRoom, NoRefusal, Obeys, RefusesAdd, RefusesPut, RefusesReplace, entry_for, needs_room, with_put};
 ghost use Rattle.alta_store.specs.declared.fault.StoreFault.TheVariants.{Taken, Missing, Numbers};
 
 use crate::guess::{Coming, Guess};
@@ -20,7 +20,81 @@ use alta_disk::Disk;
 use alta_journal::{JournalFault, LentEntry, Ready, append_ahead, is_old, ready};
 use std::alloc::{AllocError, Global};
 
+/// A document that was put: its number, and that of the one in whose place it came, where there was one.
+#[derive(Clone, Copy, Debug, Drop)]
+pub struct Put {
+    /// Its number.
+    pub number: u64,
+    /// The number of the live document that had its name before.
+    pub replaced: Option<u64>,
+}
+
 impl Store {
+    /// Adds a document, in place of the live one with its name where there is one, by one record in the journal. The name is looked up once.
+    /// It does as [`add`](Store::add) or [`replace`](Store::replace).
+    ///
+    /// # Errors
+    ///
+    /// `Numbers` exactly where no number is left; then nothing was called and nothing has changed. All others as those of
+    /// [`add`](Store::add).
+    pub fn put_document<D: Disk>(
+        &mut self,
+        disk: &mut D,
+        name: &str,
+        title: &str,
+        body: &str,
+    ) -> Result<Put, StoreFault>
+        requires document { IsDocument name.now title.now body.now }
+        requires sound { is_sound self.old ≡ true }
+        requires agrees { Agrees D.tells (D.state disk.old) self.old }
+        requires limit { HEAD_BYTES ≤ (D.state disk.old).limit }
+
+        ensures obeys { (s : State) → Knows self.old s
+            → Obeys D.tells (enters (entry_for (number_of name.now s) name.now title.now body.now))
+            (with_put (number_of name.now s) name.now title.now body.now) RefusesPut (D.state disk.old)
+            (D.state disk.new) self.old self.new result }
+        ensures put { (s : State) → Knows self.old s → IfOk result
+            (λ put. (put.number ≡ s.next) × (put.replaced ≡ number_of name.now s) × (s.next < 4294967296)) }
+        ensures numbers { (s : State) → Knows self.old s → (result ≡ Err Numbers) ↔ (4294967296 ≤ s.next) }
+        ensures refused { result ≡ Err Numbers → (disk.new ≡ disk.old) × (self.new ≡ self.old) }
+        ensures unsound { IfErr result (λ e. RefusesPut e ⊎ (is_sound self.new ≡ false)) }
+    {
+        if !self.catalog.has_room() {
+            return Err(StoreFault::Numbers);
+        }
+        let (_, _, number) = self.catalog.counts();
+        let replaced = self.catalog.number_of(name);
+        match self.enter_put(disk, replaced, name, title, body) {
+            Ok(()) => Ok(Put { number, replaced }),
+            Err(fault) => Err(self.failed(fault)),
+        }
+    }
+
+    // Puts a document in place of the one with this number, or adds it where there is none. A number is left for it.
+    fn enter_put<D: Disk>(
+        &mut self,
+        disk: &mut D,
+        replaced: Option<u64>,
+        name: &str,
+        title: &str,
+        body: &str,
+    ) -> Result<(), StoreFault>
+        requires document { IsDocument name.now title.now body.now }
+        requires agrees { Agrees D.tells (D.state disk.old) self.old }
+        requires named { (s : State) → Knows self.old s → number_of name.now s ≡ replaced }
+        requires left { (s : State) → Knows self.old s → s.next < 4294967296 }
+        requires limit { HEAD_BYTES ≤ (D.state disk.old).limit }
+
+        ensures { Obeys D.tells (enters (entry_for replaced name.now title.now body.now))
+            (with_put replaced name.now title.now body.now) NoRefusal (D.state disk.old)
+            (D.state disk.new) self.old self.new result }
+    {
+        match replaced {
+            None => self.enter_add(disk, name, title, body),
+            Some(number) => self.enter_replace(disk, number, name, title, body),
+        }
+    }
+
     /// Adds a document, by one record in the journal, and answers its number. Where the root's version can't have the record, a root of the
     /// last version comes first, with the newest documents in a level, and where the record does not fit in the journal, a
     /// [`flush`](Store::flush). The title has no tab, title and body have no newline. While it runs, each image that a stop may leave

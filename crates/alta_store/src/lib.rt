@@ -11,6 +11,7 @@ mod store;
 mod work;
 
 pub use alta_catalog::{NameRow, Names};
+pub use entries::Put;
 pub use fault::{StoreFault, load_fault};
 pub use formatting::make_index;
 pub use laws::a_search_sees_the_state;
