@@ -1,3 +1,4 @@
+pub mod AskLaws
 pub mod CursorLaws
 pub mod LoadingLaws
 pub mod SearchLaws

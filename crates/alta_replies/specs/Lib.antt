@@ -1,3 +1,4 @@
+pub mod Asks
 pub mod Loading
 pub mod Replies
 pub mod Turns

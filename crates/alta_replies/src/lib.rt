@@ -9,4 +9,4 @@ mod searching;
 pub use dumping::dump;
 pub use paging::{close, fetch, open};
 pub use replying::text;
-pub use searching::{count, explain, rank, search};
+pub use searching::{Ask, answered, explain};

@@ -27,6 +27,7 @@ ghost use Rattle.alta_search.specs.Tops.{AreToRank};
 ghost use Rattle.alta_top.specs.Best.{AreBest};
 ghost use Rattle.alta_machine.specs.Scores.{scored};
 ghost use Rattle.alta_search.specs.View.{Shows};
+ghost use Rattle.alta_replies.specs.Asks.{WritesLines, asked_lines, asked_loads, asked_reply, asked_tests};
 ghost use Rattle.alta_replies.specs.Replies.{IsReply};
 ghost use Rattle.alta_replies.specs.Loading.{LoadsKept, MayLoad, Queries, order_loads, search_loads, text_loads, top_loads, top_text_loads};
 ghost use Rattle.alta_machine.specs.Machine.{IsRefusal};
@@ -45,78 +46,55 @@ use std::alloc::{AllocError, Global};
 use std::marker::Brand;
 use std::sync::ledger::{Blank, Ledger};
 
-/// The reply to a search: a line for each document that matches, with its number and name, and how many they are, or that
-/// the text is no query. What it loads of the disk are the lists of the query, and its faults are those of loading them.
-pub fn search<D: Disk>(
-    alloc: Global,
-    disk: &mut D,
-    store: &Store,
-    kept: &mut KeptLists,
-    text: &str,
-) -> Result<Text, StoreFault>
-    requires { MayLoad D.tells (D.state disk.old) store.now kept.old }
-    ensures reply { (s : State) → D.tells → StandsFor s (D.state disk.old).content
-        → IfOk result (λ reply. reply ≡ searching text.now s.documents) }
-    ensures queries { Queries D.tells D.state disk.old disk.new store.now kept.old kept.new
-        (text_loads store.now text.now) (IsNoQuery text.now) result }
-{
-    let query = match parse(alloc, text) {
-        Ok(query) => query,
-        Err(fault) => return refused(alloc, fault),
-    };
-    let reply = search_and_list(alloc, disk, store, kept, &query);
-    drop(query);
-    reply
+/// What is asked of a query.
+#[derive(Clone, Copy)]
+pub enum Ask {
+    /// All answers, as a search does.
+    Answers,
+    /// How many there are, as a count does.
+    Count,
+    /// The first so many by falling score, as a top does.
+    Best(u64),
 }
 
-/// The reply to a count: how many documents match, or that the text is no query. What it loads of the disk are the lists of the
-/// query, and its faults are those of loading them.
-pub fn count<D: Disk>(
+/// The reply to what is asked of a text. Of a search it is a line for each document that matches, with its number and name, and how many
+/// they are; of a count, how many match. Of a top it is a line for each of the first documents that match, by falling score and at the
+/// same score by rising number, with its number, name and score, and how many match. Where the text is no query, the reply says so.
+///
+/// What it loads of the disk are the lists of the query, and for a top behind them those of the places where titles end. Its faults are
+/// those of loading them.
+pub fn answered<D: Disk>(
     alloc: Global,
     disk: &mut D,
     store: &Store,
     kept: &mut KeptLists,
+    ask: Ask,
     text: &str,
 ) -> Result<Text, StoreFault>
     requires { MayLoad D.tells (D.state disk.old) store.now kept.old }
     ensures reply { (s : State) → D.tells → StandsFor s (D.state disk.old).content
-        → IfOk result (λ reply. reply ≡ counting text.now s.documents) }
+        → IfOk result (λ reply. reply ≡ asked_reply ask text.now s.documents) }
     ensures queries { Queries D.tells D.state disk.old disk.new store.now kept.old kept.new
-        (text_loads store.now text.now) (IsNoQuery text.now) result }
+        (asked_loads ask store.now text.now) (IsNoQuery text.now) result }
 {
     let query = match parse(alloc, text) {
         Ok(query) => query,
         Err(fault) => return refused(alloc, fault),
     };
-    let reply = search_and_count(alloc, disk, store, kept, &query);
-    drop(query);
-    reply
-}
-
-/// The reply to a top: a line for each of the first `count` documents that match, by falling score and at the same score by rising
-/// number, with its number, name and score, and how many match; or that the text is no query. What it loads of the disk are the
-/// lists of the query, and behind them those of the places where titles end; its faults are those of loading them.
-pub fn rank<D: Disk>(
-    alloc: Global,
-    disk: &mut D,
-    store: &Store,
-    kept: &mut KeptLists,
-    count: u64,
-    text: &str,
-) -> Result<Text, StoreFault>
-    requires { MayLoad D.tells (D.state disk.old) store.now kept.old }
-    ensures reply { (s : State) → D.tells → StandsFor s (D.state disk.old).content
-        → IfOk result (λ reply. reply ≡ ranking count text.now s.documents) }
-    ensures queries { Queries D.tells D.state disk.old disk.new store.now kept.old kept.new
-        (top_text_loads store.now text.now) (IsNoQuery text.now) result }
-{
-    let query = match parse(alloc, text) {
-        Ok(query) => query,
-        Err(fault) => return refused(alloc, fault),
+    let Ok((plan, order)) = planned(alloc, ask, &query) else {
+        return Err(StoreFault::Memory);
     };
-    let reply = search_and_rank(alloc, disk, store, kept, count, &query);
-    drop(query);
-    reply
+    match load(alloc, disk, store, kept, order) {
+        Ok(snapshot) => written(counted::<Brand>(
+            alloc,
+            ask,
+            &plan,
+            &query,
+            &snapshot,
+            Blank::new(1),
+        )),
+        Err(fault) => Err(fault),
+    }
 }
 
 /// The reply to an explain: the canonical spelling of the query and the lines of its plan, or that the text is no query. It
@@ -152,144 +130,111 @@ fn headed(alloc: Global, head: &str, lines: &str) -> Result<String, AllocError>
     format!(in alloc; "{head}\n{lines}")
 }
 
-// The answers of a query, a line for each, and how many they are.
-fn search_and_list<D: Disk>(
+// What is asked of a plan over a snapshot, in lines. Nobody reads how many steps it took.
+fn counted<L: Ledger>(
     alloc: Global,
-    disk: &mut D,
-    store: &Store,
-    kept: &mut KeptLists,
+    ask: Ask,
+    plan: &Plan,
     query: &Query,
-) -> Result<Text, StoreFault>
-    requires { MayLoad D.tells (D.state disk.old) store.now kept.old }
-    ensures reply { (s : State) → D.tells → StandsFor s (D.state disk.old).content
-        → IfOk result (λ reply. reply ≡ found_by s.documents (Ok (shape query.now))) }
-    ensures queries { Queries D.tells D.state disk.old disk.new store.now kept.old kept.new
-        (search_loads store.now (plan_of (shape query.now))) ⊥ result }
+    snapshot: &Snapshot,
+    blank: Blank,
+) -> Result<String, AllocError>
+    requires tests { snapshot.now.tests ≡ asked_tests ask (tree plan.now) }
+    requires query { tree plan.now ≡ plan_of (shape query.now) }
+    requires read { IsWellFormed (shape query.now) }
+    requires name { blank.name ≡ L.name }
+    requires parts { blank.parts ≡ L.parts }
+    requires shared { 0 < L.parts }
+    ensures { WritesLines (λ documents. AreToCome (tree plan.now) snapshot.now 0 documents
+        × AreToRank (tree plan.now) snapshot.now documents) (asked_lines ask (shape query.now)) result }
 {
-    match plan_and_load(alloc, disk, store, kept, query) {
-        Ok((plan, snapshot)) => {
-            let reply = written(all_listed(alloc, &plan, query, &snapshot));
-            drop(plan);
-            drop(snapshot);
-            reply
-        }
-        Err(fault) => Err(fault),
+    let mut steps = Steps::<L>::new(blank);
+    match ask {
+        Ask::Answers => list(alloc, plan, query, snapshot, &mut steps),
+        Ask::Count => tally(alloc, plan, query, snapshot, &mut steps),
+        Ask::Best(count) => best(alloc, plan, query, snapshot, count, &mut steps),
     }
 }
 
 // The answers of a plan over a snapshot, a line for each, and how many they are.
-fn all_listed(
+fn list<L: Ledger>(
     alloc: Global,
     plan: &Plan,
     query: &Query,
     snapshot: &Snapshot,
+    steps: &mut Steps<L>,
 ) -> Result<String, AllocError>
     requires tests { snapshot.now.tests ≡ tests_of (tree plan.now) }
     requires query { tree plan.now ≡ plan_of (shape query.now) }
-    ensures lines { IfOk result (λ reply. (documents : List Document)
-        → AreToCome (tree plan.now) snapshot.now 0 documents
-        → string_bytes reply ≡ answer_lines documents ++ found_line (length documents)) }
-    ensures other { IfOk result (λ reply. ¬ (IsRefusal (string_bytes reply))) }
+    ensures { WritesLines (AreToCome (tree plan.now) snapshot.now 0)
+        (asked_lines Ask.Answers (shape query.now)) result }
 {
-    let page = all_found(alloc, plan, query, snapshot)?;
+    let page = alta_search::search(alloc, plan, query, snapshot, steps)?;
     let mut reply = String::new(alloc);
     put_answers(&mut reply, &page.answers)?;
     put_count(&mut reply, page.answers.len() as u64)?;
     Ok(reply)
 }
 
-// How many answers a query has.
-fn search_and_count<D: Disk>(
-    alloc: Global,
-    disk: &mut D,
-    store: &Store,
-    kept: &mut KeptLists,
-    query: &Query,
-) -> Result<Text, StoreFault>
-    requires { MayLoad D.tells (D.state disk.old) store.now kept.old }
-    ensures reply { (s : State) → D.tells → StandsFor s (D.state disk.old).content
-        → IfOk result (λ reply. reply ≡ counted_by s.documents (Ok (shape query.now))) }
-    ensures queries { Queries D.tells D.state disk.old disk.new store.now kept.old kept.new
-        (search_loads store.now (plan_of (shape query.now))) ⊥ result }
-{
-    match plan_and_load(alloc, disk, store, kept, query) {
-        Ok((plan, snapshot)) => {
-            let reply = written(all_counted(alloc, &plan, query, &snapshot));
-            drop(plan);
-            drop(snapshot);
-            reply
-        }
-        Err(fault) => Err(fault),
-    }
-}
-
 // How many answers a plan has over a snapshot.
-fn all_counted(
+fn tally<L: Ledger>(
     alloc: Global,
     plan: &Plan,
     query: &Query,
     snapshot: &Snapshot,
+    steps: &mut Steps<L>,
 ) -> Result<String, AllocError>
     requires tests { snapshot.now.tests ≡ tests_of (tree plan.now) }
     requires query { tree plan.now ≡ plan_of (shape query.now) }
-    ensures lines { IfOk result (λ reply. (documents : List Document)
-        → AreToCome (tree plan.now) snapshot.now 0 documents → string_bytes reply ≡ found_line (length documents)) }
-    ensures other { IfOk result (λ reply. ¬ (IsRefusal (string_bytes reply))) }
+    ensures { WritesLines (AreToCome (tree plan.now) snapshot.now 0) (asked_lines Ask.Count (shape query.now)) result }
 {
-    let count = all_tallied(alloc, plan, query, snapshot)?;
+    let count = alta_counts::count(alloc, plan, query, snapshot, steps)?;
     let mut reply = String::new(alloc);
     put_count(&mut reply, count)?;
     Ok(reply)
 }
 
-// The best answers of a query, a line for each, and how many answers there are.
-fn search_and_rank<D: Disk>(
-    alloc: Global,
-    disk: &mut D,
-    store: &Store,
-    kept: &mut KeptLists,
-    count: u64,
-    query: &Query,
-) -> Result<Text, StoreFault>
-    requires may { MayLoad D.tells (D.state disk.old) store.now kept.old }
-    requires read { IsWellFormed (shape query.now) }
-    ensures reply { (s : State) → D.tells → StandsFor s (D.state disk.old).content
-        → IfOk result (λ reply. reply ≡ ranked_by count s.documents (Ok (shape query.now))) }
-    ensures queries { Queries D.tells D.state disk.old disk.new store.now kept.old kept.new
-        (top_loads store.now (plan_of (shape query.now))) ⊥ result }
-{
-    match plan_and_load_for_top(alloc, disk, store, kept, query) {
-        Ok((plan, snapshot)) => {
-            let reply = written(all_ranked(alloc, &plan, query, &snapshot, count));
-            drop(plan);
-            drop(snapshot);
-            reply
-        }
-        Err(fault) => Err(fault),
-    }
-}
-
 // The best answers of a plan over a snapshot, a line for each, and how many answers there are.
-fn all_ranked(
+fn best<L: Ledger>(
     alloc: Global,
     plan: &Plan,
     query: &Query,
     snapshot: &Snapshot,
     count: u64,
+    steps: &mut Steps<L>,
 ) -> Result<String, AllocError>
     requires tests { snapshot.now.tests ≡ tests_of (tree plan.now) ++ title_end ∷ [] }
     requires query { tree plan.now ≡ plan_of (shape query.now) }
     requires read { IsWellFormed (shape query.now) }
-    ensures lines { IfOk result (λ reply. (documents : List Document) → AreToRank (tree plan.now) snapshot.now documents
-        → string_bytes reply ≡ score_lines (take count (ranked (map (scored (uses_of (shape query.now))) documents)))
-        ++ found_line (length documents)) }
-    ensures other { IfOk result (λ reply. ¬ (IsRefusal (string_bytes reply))) }
+    ensures { WritesLines (AreToRank (tree plan.now) snapshot.now)
+        (asked_lines (Ask.Best count) (shape query.now)) result }
 {
-    let best = all_best(alloc, plan, query, snapshot, count)?;
+    let best = alta_top::top(alloc, plan, query, snapshot, count, steps)?;
     let mut reply = String::new(alloc);
     put_scores(&mut reply, best.answers.as_slice())?;
     put_count(&mut reply, best.total)?;
     Ok(reply)
+}
+
+// The plan of a query, and the tests that are loaded for what is asked, in order.
+fn planned(alloc: Global, ask: Ask, query: &Query) -> Result<(Plan, Loading), AllocError>
+    ensures plan { IfOk result (λ planned. tree planned.0 ≡ plan_of (shape query.now)) }
+    ensures order { IfOk result (λ planned. used planned.1 ≡ asked_tests ask (tree planned.0)) }
+{
+    let plan = compile(alloc, query)?;
+    let order = order_for(alloc, ask, &plan)?;
+    Ok((plan, order))
+}
+
+// The tests of a plan that are loaded for what is asked, in order.
+fn order_for(alloc: Global, ask: Ask, plan: &Plan) -> Result<Loading, AllocError>
+    ensures { IfOk result (λ order. used order ≡ asked_tests ask (tree plan.now)) }
+{
+    match ask {
+        Ask::Answers => loading_order(alloc, plan),
+        Ask::Count => loading_order(alloc, plan),
+        Ask::Best(_count) => ranking_order(alloc, plan),
+    }
 }
 
 /// The plan of a query, and the snapshot of a store's documents for it, whose lists are loaded from the disk. Over it the answers of the
@@ -314,43 +259,7 @@ pub(crate) fn plan_and_load<D: Disk>(
     ensures loads { LoadsKept D.tells store.now kept.new (search_loads store.now (plan_of (shape query.now)))
         (D.state disk.old) (D.state disk.new) result }
 {
-    let Ok(plan) = compile(alloc, query) else {
-        return Err(StoreFault::Memory);
-    };
-    let Ok(order) = loading_order(alloc, &plan) else {
-        drop(plan);
-        return Err(StoreFault::Memory);
-    };
-    match load(alloc, disk, store, kept, order) {
-        Ok(snapshot) => Ok((plan, snapshot)),
-        Err(fault) => {
-            drop(plan);
-            Err(fault)
-        }
-    }
-}
-
-// The plan of a query, and the snapshot of a store's documents for its best answers. Its faults are those of [`plan_and_load`].
-fn plan_and_load_for_top<D: Disk>(
-    alloc: Global,
-    disk: &mut D,
-    store: &Store,
-    kept: &mut KeptLists,
-    query: &Query,
-) -> Result<(Plan, Snapshot), StoreFault>
-    requires { MayLoad D.tells (D.state disk.old) store.now kept.old }
-    ensures plan { IfOk result (λ found. tree found.0 ≡ plan_of (shape query.now)) }
-    ensures tests { IfOk result (λ found. found.1.tests ≡ tests_of (tree found.0) ++ title_end ∷ []) }
-    ensures answers { (s : State) → D.tells → StandsFor s (D.state disk.old).content
-        → IfOk result (λ found. AreToRank (tree found.0) found.1 (answers s.documents (shape query.now))) }
-    ensures loads { LoadsKept D.tells store.now kept.new (top_loads store.now (plan_of (shape query.now)))
-        (D.state disk.old) (D.state disk.new) result }
-{
-    let Ok(plan) = compile(alloc, query) else {
-        return Err(StoreFault::Memory);
-    };
-    let Ok(order) = ranking_order(alloc, &plan) else {
-        drop(plan);
+    let Ok((plan, order)) = planned(alloc, Ask::Answers, query) else {
         return Err(StoreFault::Memory);
     };
     match load(alloc, disk, store, kept, order) {
@@ -395,113 +304,4 @@ pub(crate) fn load<D: Disk>(
         Ok(snapshot) => Ok(snapshot),
         Err(fault) => Err(load_fault(fault)),
     }
-}
-
-// All answers of a plan. Nobody reads how many steps they took.
-fn all_found(
-    alloc: Global,
-    plan: &Plan,
-    query: &Query,
-    snapshot: &Snapshot,
-) -> Result<Page, AllocError>
-    requires tests { snapshot.now.tests ≡ tests_of (tree plan.now) }
-    requires query { tree plan.now ≡ plan_of (shape query.now) }
-    ensures { IfOk result (λ page. (space : List Placed) → Shows space snapshot.now
-        → page.answers ≡ map answer_of (coming space (tree plan.now) snapshot.now 0)) }
-{
-    found::<Brand>(alloc, plan, query, snapshot, Blank::new(1))
-}
-
-fn found<L: Ledger>(
-    alloc: Global,
-    plan: &Plan,
-    query: &Query,
-    snapshot: &Snapshot,
-    blank: Blank,
-) -> Result<Page, AllocError>
-    requires tests { snapshot.now.tests ≡ tests_of (tree plan.now) }
-    requires query { tree plan.now ≡ plan_of (shape query.now) }
-    requires name { blank.name ≡ L.name }
-    requires parts { blank.parts ≡ L.parts }
-    requires shared { 0 < L.parts }
-    ensures { IfOk result (λ page. (space : List Placed) → Shows space snapshot.now
-        → page.answers ≡ map answer_of (coming space (tree plan.now) snapshot.now 0)) }
-{
-    let mut steps = Steps::<L>::new(blank);
-    let page = alta_search::search(alloc, plan, query, snapshot, &mut steps)?;
-    Ok(page)
-}
-
-// How many answers a plan has.
-fn all_tallied(
-    alloc: Global,
-    plan: &Plan,
-    query: &Query,
-    snapshot: &Snapshot,
-) -> Result<u64, AllocError>
-    requires tests { snapshot.now.tests ≡ tests_of (tree plan.now) }
-    requires query { tree plan.now ≡ plan_of (shape query.now) }
-    ensures { IfOk result (λ n. (space : List Placed) → Shows space snapshot.now
-        → n ≡ length (coming space (tree plan.now) snapshot.now 0)) }
-{
-    tallied::<Brand>(alloc, plan, query, snapshot, Blank::new(1))
-}
-
-fn tallied<L: Ledger>(
-    alloc: Global,
-    plan: &Plan,
-    query: &Query,
-    snapshot: &Snapshot,
-    blank: Blank,
-) -> Result<u64, AllocError>
-    requires tests { snapshot.now.tests ≡ tests_of (tree plan.now) }
-    requires query { tree plan.now ≡ plan_of (shape query.now) }
-    requires name { blank.name ≡ L.name }
-    requires parts { blank.parts ≡ L.parts }
-    requires shared { 0 < L.parts }
-    ensures { IfOk result (λ n. (space : List Placed) → Shows space snapshot.now
-        → n ≡ length (coming space (tree plan.now) snapshot.now 0)) }
-{
-    let mut steps = Steps::<L>::new(blank);
-    let count = alta_counts::count(alloc, plan, query, snapshot, &mut steps)?;
-    Ok(count)
-}
-
-// The best answers of a plan, so many at most.
-fn all_best(
-    alloc: Global,
-    plan: &Plan,
-    query: &Query,
-    snapshot: &Snapshot,
-    count: u64,
-) -> Result<Top, AllocError>
-    requires tests { snapshot.now.tests ≡ tests_of (tree plan.now) ++ title_end ∷ [] }
-    requires query { tree plan.now ≡ plan_of (shape query.now) }
-    requires read { IsWellFormed (shape query.now) }
-    ensures { IfOk result (λ top. (documents : List Document) → AreToRank (tree plan.now) snapshot.now documents
-        → AreBest (uses_of (shape query.now)) documents count top) }
-{
-    best::<Brand>(alloc, plan, query, snapshot, count, Blank::new(1))
-}
-
-fn best<L: Ledger>(
-    alloc: Global,
-    plan: &Plan,
-    query: &Query,
-    snapshot: &Snapshot,
-    count: u64,
-    blank: Blank,
-) -> Result<Top, AllocError>
-    requires tests { snapshot.now.tests ≡ tests_of (tree plan.now) ++ title_end ∷ [] }
-    requires query { tree plan.now ≡ plan_of (shape query.now) }
-    requires name { blank.name ≡ L.name }
-    requires parts { blank.parts ≡ L.parts }
-    requires read { IsWellFormed (shape query.now) }
-    requires shared { 0 < L.parts }
-    ensures { IfOk result (λ top. (documents : List Document) → AreToRank (tree plan.now) snapshot.now documents
-        → AreBest (uses_of (shape query.now)) documents count top) }
-{
-    let mut steps = Steps::<L>::new(blank);
-    let top = alta_top::top(alloc, plan, query, snapshot, count, &mut steps)?;
-    Ok(top)
 }
