@@ -28,3 +28,4 @@ pub mod SpendingLaws
 pub mod StateLaws
 pub mod StatusLaws
 pub mod TaskLaws
+pub mod WorkingLaws

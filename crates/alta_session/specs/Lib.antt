@@ -19,3 +19,4 @@ pub mod Run
 pub mod Spending
 pub mod Status
 pub mod Tasks
+pub mod Working

@@ -8,6 +8,7 @@ mod serving;
 mod session;
 mod status;
 mod top;
+mod working;
 
 pub use laws::{
     a_line_keeps_a_state, a_search_answers_what_matches, the_lines_of_a_dump_restore,

@@ -99,28 +99,6 @@ fn end_line<C: Console, D: Disk>(
     }
 }
 
-// Answers a line that ends here, behind a look at the bytes that wait.
-fn end_line_before<C: Console, D: Disk>(
-    alloc: Global,
-    session: &mut Session,
-    console: &mut C,
-    disk: &mut D,
-    begun: &mut Vec<u8>,
-    rest: &[u8],
-    waiting: &[u8],
-) -> Result<(), Status>
-    requires short { length begun.old.items ≤ LINE_LIMIT + 1 }
-    requires begun_free { Lacks 10 begun.old.items }
-    requires rest_free { Lacks 10 rest.now }
-    requires can { CanAnswer D.tells (D.state disk.old) session.old }
-    ensures answers { AnswersLines D.tells C.told C.left C.take_faults C.give_faults console.old console.new
-        (D.state disk.old) (D.state disk.new) session.old session.new ((begun.old.items ++ rest.now) ∷ []) result }
-    ensures none_begun { OnOk result (begun.new.items ≡ []) }
-{
-    session.look_ahead(waiting);
-    end_line(alloc, session, console, disk, begun, rest)
-}
-
 // Goes on by the bytes up to the first newline, where a line ends and is answered, or by all where there is none.
 // Answers by how many.
 fn feed_line<C: Console, D: Disk>(
@@ -153,18 +131,13 @@ fn feed_line<C: Console, D: Disk>(
             Ok(()) => Ok(bytes.len()),
             Err(status) => Err(status),
         },
-        Some(n) => match end_line_before(
-            alloc,
-            session,
-            console,
-            disk,
-            begun,
-            &bytes[..n],
-            &bytes[n + 1..],
-        ) {
-            Ok(()) => Ok(n + 1),
-            Err(status) => Err(status),
-        },
+        Some(n) => {
+            session.look_ahead(&bytes[n + 1..]);
+            match end_line(alloc, session, console, disk, begun, &bytes[..n]) {
+                Ok(()) => Ok(n + 1),
+                Err(status) => Err(status),
+            }
+        }
     }
 }
 

@@ -8,7 +8,7 @@ ghost use Rattle.alta_machine.specs.declared.document.State.{State};
 ghost use Rattle.alta_session.specs.Agreement.{AgreesOn, HasNotFailed};
 ghost use Rattle.alta_session.specs.Answering.{Answers, CanAnswer};
 ghost use Rattle.alta_replies.specs.Replies.{IsReply};
-ghost use Rattle.alta_machine.specs.Command.{adds, deletes, flushes as asks_flush, merges as asks_merge, steps as asks_step};
+ghost use Rattle.alta_machine.specs.Command.{adds, deletes};
 ghost use Rattle.alta_machine.specs.Lines.{asks, reading_of};
 ghost use Rattle.alta_session.specs.Joining.{Works};
 ghost use Rattle.alta_replies.specs.Loading.{Loads};
@@ -21,8 +21,9 @@ ghost use Rattle.alta_store.specs.Opening.{Opens};
 ghost use Rattle.alta_meaning.specs.Opened.{Opened, IsOpened};
 ghost use Rattle.alta_meaning.specs.Standing.{StandsFor};
 ghost use Rattle.alta_meaning.specs.Entries.{IsDocument};
-ghost use Rattle.alta_meaning.specs.Work.{flushes, merges, steps};
+ghost use Rattle.alta_session.specs.Working.{work_command, work_task};
 
+use crate::working::{LevelWork, do_work};
 use alta_codec::{Text, name_ok};
 use alta_cursors::Cursors;
 use alta_disk::Disk;
@@ -30,7 +31,7 @@ use alta_layout::Slot;
 use alta_loading::KeptLists;
 use alta_machine::LineFault;
 use alta_model::{Line, read_line};
-use alta_replies::{close, count, dump, explain, fetch, open, rank, search, text};
+use alta_replies::{Ask, answered, close, dump, explain, fetch, open, text};
 use alta_store::{Put, Store, StoreFault};
 use memchr::memchr;
 use std::alloc::Global;
@@ -157,8 +158,12 @@ impl Session {
         match asked {
             Line::Add { name, title, body } => self.add(alloc, disk, name, title, body),
             Line::Delete { name } => self.delete(alloc, disk, name),
-            Line::Search { text } => search(alloc, disk, &self.store, &mut self.kept, text),
-            Line::Count { text } => count(alloc, disk, &self.store, &mut self.kept, text),
+            Line::Search { text } => {
+                answered(alloc, disk, &self.store, &mut self.kept, Ask::Answers, text)
+            }
+            Line::Count { text } => {
+                answered(alloc, disk, &self.store, &mut self.kept, Ask::Count, text)
+            }
             Line::Explain { text } => explain(alloc, text),
             Line::OpenCursor { text } => open(
                 alloc,
@@ -170,12 +175,17 @@ impl Session {
             ),
             Line::Fetch { cursor, count } => fetch(alloc, &mut self.cursors, cursor, count),
             Line::Close { cursor } => close(alloc, &mut self.cursors, cursor),
-            Line::Top { count, text } => {
-                rank(alloc, disk, &self.store, &mut self.kept, count, text)
-            }
-            Line::Flush => self.flush(alloc, disk),
-            Line::Merge => self.merge(alloc, disk),
-            Line::Step { count } => self.step(alloc, disk, count),
+            Line::Top { count, text } => answered(
+                alloc,
+                disk,
+                &self.store,
+                &mut self.kept,
+                Ask::Best(count),
+                text,
+            ),
+            Line::Flush => self.work(alloc, disk, LevelWork::Flush),
+            Line::Merge => self.work(alloc, disk, LevelWork::Merge),
+            Line::Step { count } => self.work(alloc, disk, LevelWork::Step(count)),
             Line::Stats => stats(alloc, self.store.counts()),
             Line::Dump => dump(alloc, disk, &self.store, &mut self.kept),
         }
@@ -238,53 +248,24 @@ impl Session {
             Err(fault) => match fault {
                 StoreFault::Missing => text(alloc, "! no such document\n"),
                 fault => Err(fault),
-            },
-        }
-    }
-
-    // Makes the newest documents a level.
-    fn flush<D: Disk>(&mut self, alloc: Global, disk: &mut D) -> Result<Text, StoreFault>
-        requires { CanAnswer D.tells (D.state disk.old) self.old }
-        ensures answers { Answers D.tells D.state disk.old disk.new self.old self.new result (λ m. (m, codes "ok\n"))
-            (λ m. Some flushes) }
-        ensures works { Works D.tells D.state disk.old disk.new self.old.store (asks asks_flush) result }
-    {
-        let before = self.store.slot();
-        match self.store.flush(disk) {
-            Ok(()) => {
-                forget_left(&mut self.kept, &self.store, before);
-                text(alloc, "ok\n")
             }
-            Err(fault) => Err(fault),
         }
     }
 
-    // Joins all levels and the newest documents to one.
-    fn merge<D: Disk>(&mut self, alloc: Global, disk: &mut D) -> Result<Text, StoreFault>
+    // Answers a line that asks for work on levels.
+    fn work<D: Disk>(
+        &mut self,
+        alloc: Global,
+        disk: &mut D,
+        work: LevelWork,
+    ) -> Result<Text, StoreFault>
         requires { CanAnswer D.tells (D.state disk.old) self.old }
         ensures answers { Answers D.tells D.state disk.old disk.new self.old self.new result (λ m. (m, codes "ok\n"))
-            (λ m. Some merges) }
-        ensures works { Works D.tells D.state disk.old disk.new self.old.store (asks asks_merge) result }
+            (λ m. Some (work_task work)) }
+        ensures works { Works D.tells D.state disk.old disk.new self.old.store (asks (work_command work)) result }
     {
         let before = self.store.slot();
-        match self.store.merge(disk) {
-            Ok(()) => {
-                forget_left(&mut self.kept, &self.store, before);
-                text(alloc, "ok\n")
-            }
-            Err(fault) => Err(fault),
-        }
-    }
-
-    // Moves the join of the two oldest levels on by `n` terms.
-    fn step<D: Disk>(&mut self, alloc: Global, disk: &mut D, n: u64) -> Result<Text, StoreFault>
-        requires { CanAnswer D.tells (D.state disk.old) self.old }
-        ensures answers { Answers D.tells D.state disk.old disk.new self.old self.new result (λ m. (m, codes "ok\n"))
-            (λ m. Some (steps n)) }
-        ensures works { Works D.tells D.state disk.old disk.new self.old.store (asks (asks_step n)) result }
-    {
-        let before = self.store.slot();
-        match self.store.step(disk, n) {
+        match do_work(&mut self.store, disk, work) {
             Ok(()) => {
                 forget_left(&mut self.kept, &self.store, before);
                 text(alloc, "ok\n")

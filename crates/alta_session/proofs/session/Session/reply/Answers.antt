@@ -51,18 +51,18 @@ returns-in-Delete-clause-answers g c =
 
 pub returns-in-Flush-clause-answers : goal.returns-in-Flush-clause-answers
 returns-in-Flush-clause-answers g c =
-    answers_by g.D.Disk.tells g.D.Disk.state c.args.disk.now c.flush.new.disk c.args.self.now c.flush.new.self c.flush.result (λ m. (m, codes "ok\n")) (λ m. step m c.args.line.now) (λ m. Some flushes) (λ m. task_of m c.args.line.now)
-    (λ m. sym (step_asks c.args.line.now c.in-Ok.asked Flush c.in-Ok.ensures.reading c.in-Flush.is m)) (λ m. sym (task_reads m c.args.line.now (asks asks_flush) (reading_is c.args.line.now c.in-Ok.asked Flush c.in-Ok.ensures.reading c.in-Flush.is))) c.flush.ensures.answers
+    answers_by g.D.Disk.tells g.D.Disk.state c.args.disk.now c.work.new.disk c.args.self.now c.work.new.self c.work.result (λ m. (m, codes "ok\n")) (λ m. step m c.args.line.now) (λ m. Some flushes) (λ m. task_of m c.args.line.now)
+    (λ m. sym (step_asks c.args.line.now c.in-Ok.asked Flush c.in-Ok.ensures.reading c.in-Flush.is m)) (λ m. sym (task_reads m c.args.line.now (asks asks_flush) (reading_is c.args.line.now c.in-Ok.asked Flush c.in-Ok.ensures.reading c.in-Flush.is))) c.work.ensures.answers
 
 pub returns-in-Merge-clause-answers : goal.returns-in-Merge-clause-answers
 returns-in-Merge-clause-answers g c =
-    answers_by g.D.Disk.tells g.D.Disk.state c.args.disk.now c.merge.new.disk c.args.self.now c.merge.new.self c.merge.result (λ m. (m, codes "ok\n")) (λ m. step m c.args.line.now) (λ m. Some merges) (λ m. task_of m c.args.line.now)
-    (λ m. sym (step_asks c.args.line.now c.in-Ok.asked Merge c.in-Ok.ensures.reading c.in-Merge.is m)) (λ m. sym (task_reads m c.args.line.now (asks asks_merge) (reading_is c.args.line.now c.in-Ok.asked Merge c.in-Ok.ensures.reading c.in-Merge.is))) c.merge.ensures.answers
+    answers_by g.D.Disk.tells g.D.Disk.state c.args.disk.now c.work-in-Merge.new.disk c.args.self.now c.work-in-Merge.new.self c.work-in-Merge.result (λ m. (m, codes "ok\n")) (λ m. step m c.args.line.now) (λ m. Some merges) (λ m. task_of m c.args.line.now)
+    (λ m. sym (step_asks c.args.line.now c.in-Ok.asked Merge c.in-Ok.ensures.reading c.in-Merge.is m)) (λ m. sym (task_reads m c.args.line.now (asks asks_merge) (reading_is c.args.line.now c.in-Ok.asked Merge c.in-Ok.ensures.reading c.in-Merge.is))) c.work-in-Merge.ensures.answers
 
 pub returns-in-Step-clause-answers : goal.returns-in-Step-clause-answers
 returns-in-Step-clause-answers g c =
-    answers_by g.D.Disk.tells g.D.Disk.state c.args.disk.now c.step.new.disk c.args.self.now c.step.new.self c.step.result (λ m. (m, codes "ok\n")) (λ m. step m c.args.line.now) (λ m. Some (steps c.in-Step.count)) (λ m. task_of m c.args.line.now)
-    (λ m. sym (step_asks c.args.line.now c.in-Ok.asked (Step c.in-Step.count) c.in-Ok.ensures.reading c.in-Step.is m)) (λ m. sym (task_reads m c.args.line.now (asks (asks_step c.in-Step.count)) (reading_is c.args.line.now c.in-Ok.asked (Step c.in-Step.count) c.in-Ok.ensures.reading c.in-Step.is))) c.step.ensures.answers
+    answers_by g.D.Disk.tells g.D.Disk.state c.args.disk.now c.work-in-Step.new.disk c.args.self.now c.work-in-Step.new.self c.work-in-Step.result (λ m. (m, codes "ok\n")) (λ m. step m c.args.line.now) (λ m. Some (steps c.in-Step.count)) (λ m. task_of m c.args.line.now)
+    (λ m. sym (step_asks c.args.line.now c.in-Ok.asked (Step c.in-Step.count) c.in-Ok.ensures.reading c.in-Step.is m)) (λ m. sym (task_reads m c.args.line.now (asks (asks_step c.in-Step.count)) (reading_is c.args.line.now c.in-Ok.asked (Step c.in-Step.count) c.in-Ok.ensures.reading c.in-Step.is))) c.work-in-Step.ensures.answers
 
 -- a line that changes documents or levels does not look
 pub returns-in-Add-clause-no_disk : goal.returns-in-Add-clause-no_disk
@@ -83,62 +83,62 @@ pub returns-in-Step-clause-no_disk : goal.returns-in-Step-clause-no_disk
 returns-in-Step-clause-no_disk g c = λ looks. absurd (subst LooksIn (reading_is c.args.line.now c.in-Ok.asked (Step c.in-Step.count) c.in-Ok.ensures.reading c.in-Step.is) looks)
 
 -- a query is answered over the disk
-pub search-requires : goal.search-requires
-search-requires g c = record { agrees = c.requires.can.agrees; known = c.requires.can.known }
+pub answered-requires : goal.answered-requires
+answered-requires g c = record { agrees = c.requires.can.agrees; known = c.requires.can.known }
 
-pub count-requires : goal.count-requires
-count-requires g c = record { agrees = c.requires.can.agrees; known = c.requires.can.known }
+pub answered-requires-2 : goal.answered-requires-2
+answered-requires-2 g c = record { agrees = c.requires.can.agrees; known = c.requires.can.known }
 
 pub open-requires : goal.open-requires
 open-requires g c = record { agrees = c.requires.can.agrees; known = c.requires.can.known }
 
-pub rank-requires : goal.rank-requires
-rank-requires g c = record { agrees = c.requires.can.agrees; known = c.requires.can.known }
+pub answered-requires-3 : goal.answered-requires-3
+answered-requires-3 g c = record { agrees = c.requires.can.agrees; known = c.requires.can.known }
 
 pub dump-requires : goal.dump-requires
 dump-requires g c = record { agrees = c.requires.can.agrees; known = c.requires.can.known }
 
 pub returns-in-Search-clause-answers : goal.returns-in-Search-clause-answers
 returns-in-Search-clause-answers g c =
-    queried g.D.Disk.tells g.D.Disk.state c.args.disk.now c.search.new.disk c.args.self.now c.search.new.kept c.args.self.now.cursors (text_loads c.args.self.now.store c.in-Search.text.now) (IsNoQuery c.in-Search.text.now) c.search.result (λ m. step m c.args.line.now) (λ m. task_of m c.args.line.now)
-    (λ s all. (all, searching c.in-Search.text.now s.documents)) (g.met.D.Disk.lawful c.args.disk.now) c.requires.can c.search.ensures.queries
-    (kept_all c.search.result c.args.self.now.cursors) (λ s all tell stands are. record { reply = c.search.ensures.reply s tell stands; open_now = if_so c.search.result (AreOpen c.args.self.now.cursors all) are })
+    queried g.D.Disk.tells g.D.Disk.state c.args.disk.now c.answered.new.disk c.args.self.now c.answered.new.kept c.args.self.now.cursors (text_loads c.args.self.now.store c.in-Search.text.now) (IsNoQuery c.in-Search.text.now) c.answered.result (λ m. step m c.args.line.now) (λ m. task_of m c.args.line.now)
+    (λ s all. (all, searching c.in-Search.text.now s.documents)) (g.met.D.Disk.lawful c.args.disk.now) c.requires.can c.answered.ensures.queries
+    (kept_all c.answered.result c.args.self.now.cursors) (λ s all tell stands are. record { reply = c.answered.ensures.reply s tell stands; open_now = if_so c.answered.result (AreOpen c.args.self.now.cursors all) are })
     (λ s all are refusal. search_refuses c.in-Search.text.now s.documents refusal) (step_asks c.args.line.now c.in-Ok.asked (Search c.in-Search.text) c.in-Ok.ensures.reading c.in-Search.is) (λ m. task_reads m c.args.line.now (asks (searches c.in-Search.text.now)) (reading_is c.args.line.now c.in-Ok.asked (Search c.in-Search.text) c.in-Ok.ensures.reading c.in-Search.is))
 
 pub returns-in-Search-clause-no_disk : goal.returns-in-Search-clause-no_disk
-returns-in-Search-clause-no_disk g c = λ looks. c.search.ensures.queries.idles (subst LooksIn (reading_is c.args.line.now c.in-Ok.asked (Search c.in-Search.text) c.in-Ok.ensures.reading c.in-Search.is) looks)
+returns-in-Search-clause-no_disk g c = λ looks. c.answered.ensures.queries.idles (subst LooksIn (reading_is c.args.line.now c.in-Ok.asked (Search c.in-Search.text) c.in-Ok.ensures.reading c.in-Search.is) looks)
 
 pub returns-in-Search-clause-loads : goal.returns-in-Search-clause-loads
 returns-in-Search-clause-loads g c = λ searches.
-    subst (λ (r : Reading). Loads g.D.Disk.tells (loads_in (levels_of c.args.self.now.store) (newest_in c.args.self.now.store) (length c.args.self.now.cursors) r) (g.D.Disk.state c.args.disk.now) (g.D.Disk.state c.search.new.disk) c.search.result) (sym (reading_is c.args.line.now c.in-Ok.asked (Search c.in-Search.text) c.in-Ok.ensures.reading c.in-Search.is)) c.search.ensures.queries.loading.loaded
+    subst (λ (r : Reading). Loads g.D.Disk.tells (loads_in (levels_of c.args.self.now.store) (newest_in c.args.self.now.store) (length c.args.self.now.cursors) r) (g.D.Disk.state c.args.disk.now) (g.D.Disk.state c.answered.new.disk) c.answered.result) (sym (reading_is c.args.line.now c.in-Ok.asked (Search c.in-Search.text) c.in-Ok.ensures.reading c.in-Search.is)) c.answered.ensures.queries.loading.loaded
 
 pub returns-in-Count-clause-answers : goal.returns-in-Count-clause-answers
 returns-in-Count-clause-answers g c =
-    queried g.D.Disk.tells g.D.Disk.state c.args.disk.now c.count.new.disk c.args.self.now c.count.new.kept c.args.self.now.cursors (text_loads c.args.self.now.store c.in-Count.text.now) (IsNoQuery c.in-Count.text.now) c.count.result (λ m. step m c.args.line.now) (λ m. task_of m c.args.line.now)
-    (λ s all. (all, counting c.in-Count.text.now s.documents)) (g.met.D.Disk.lawful c.args.disk.now) c.requires.can c.count.ensures.queries
-    (kept_all c.count.result c.args.self.now.cursors) (λ s all tell stands are. record { reply = c.count.ensures.reply s tell stands; open_now = if_so c.count.result (AreOpen c.args.self.now.cursors all) are })
+    queried g.D.Disk.tells g.D.Disk.state c.args.disk.now c.answered-in-Count.new.disk c.args.self.now c.answered-in-Count.new.kept c.args.self.now.cursors (text_loads c.args.self.now.store c.in-Count.text.now) (IsNoQuery c.in-Count.text.now) c.answered-in-Count.result (λ m. step m c.args.line.now) (λ m. task_of m c.args.line.now)
+    (λ s all. (all, counting c.in-Count.text.now s.documents)) (g.met.D.Disk.lawful c.args.disk.now) c.requires.can c.answered-in-Count.ensures.queries
+    (kept_all c.answered-in-Count.result c.args.self.now.cursors) (λ s all tell stands are. record { reply = c.answered-in-Count.ensures.reply s tell stands; open_now = if_so c.answered-in-Count.result (AreOpen c.args.self.now.cursors all) are })
     (λ s all are refusal. count_refuses c.in-Count.text.now s.documents refusal) (step_asks c.args.line.now c.in-Ok.asked (Count c.in-Count.text) c.in-Ok.ensures.reading c.in-Count.is) (λ m. task_reads m c.args.line.now (asks (asks_count c.in-Count.text.now)) (reading_is c.args.line.now c.in-Ok.asked (Count c.in-Count.text) c.in-Ok.ensures.reading c.in-Count.is))
 
 pub returns-in-Count-clause-no_disk : goal.returns-in-Count-clause-no_disk
-returns-in-Count-clause-no_disk g c = λ looks. c.count.ensures.queries.idles (subst LooksIn (reading_is c.args.line.now c.in-Ok.asked (Count c.in-Count.text) c.in-Ok.ensures.reading c.in-Count.is) looks)
+returns-in-Count-clause-no_disk g c = λ looks. c.answered-in-Count.ensures.queries.idles (subst LooksIn (reading_is c.args.line.now c.in-Ok.asked (Count c.in-Count.text) c.in-Ok.ensures.reading c.in-Count.is) looks)
 
 pub returns-in-Count-clause-loads : goal.returns-in-Count-clause-loads
 returns-in-Count-clause-loads g c = λ searches.
-    subst (λ (r : Reading). Loads g.D.Disk.tells (loads_in (levels_of c.args.self.now.store) (newest_in c.args.self.now.store) (length c.args.self.now.cursors) r) (g.D.Disk.state c.args.disk.now) (g.D.Disk.state c.count.new.disk) c.count.result) (sym (reading_is c.args.line.now c.in-Ok.asked (Count c.in-Count.text) c.in-Ok.ensures.reading c.in-Count.is)) c.count.ensures.queries.loading.loaded
+    subst (λ (r : Reading). Loads g.D.Disk.tells (loads_in (levels_of c.args.self.now.store) (newest_in c.args.self.now.store) (length c.args.self.now.cursors) r) (g.D.Disk.state c.args.disk.now) (g.D.Disk.state c.answered-in-Count.new.disk) c.answered-in-Count.result) (sym (reading_is c.args.line.now c.in-Ok.asked (Count c.in-Count.text) c.in-Ok.ensures.reading c.in-Count.is)) c.answered-in-Count.ensures.queries.loading.loaded
 
 pub returns-in-Top-clause-answers : goal.returns-in-Top-clause-answers
 returns-in-Top-clause-answers g c =
-    queried g.D.Disk.tells g.D.Disk.state c.args.disk.now c.rank.new.disk c.args.self.now c.rank.new.kept c.args.self.now.cursors (top_text_loads c.args.self.now.store c.in-Top.text.now) (IsNoQuery c.in-Top.text.now) c.rank.result (λ m. step m c.args.line.now) (λ m. task_of m c.args.line.now)
-    (λ s all. (all, ranking c.in-Top.count c.in-Top.text.now s.documents)) (g.met.D.Disk.lawful c.args.disk.now) c.requires.can c.rank.ensures.queries
-    (kept_all c.rank.result c.args.self.now.cursors) (λ s all tell stands are. record { reply = c.rank.ensures.reply s tell stands; open_now = if_so c.rank.result (AreOpen c.args.self.now.cursors all) are })
+    queried g.D.Disk.tells g.D.Disk.state c.args.disk.now c.answered-in-Top.new.disk c.args.self.now c.answered-in-Top.new.kept c.args.self.now.cursors (top_text_loads c.args.self.now.store c.in-Top.text.now) (IsNoQuery c.in-Top.text.now) c.answered-in-Top.result (λ m. step m c.args.line.now) (λ m. task_of m c.args.line.now)
+    (λ s all. (all, ranking c.in-Top.count c.in-Top.text.now s.documents)) (g.met.D.Disk.lawful c.args.disk.now) c.requires.can c.answered-in-Top.ensures.queries
+    (kept_all c.answered-in-Top.result c.args.self.now.cursors) (λ s all tell stands are. record { reply = c.answered-in-Top.ensures.reply s tell stands; open_now = if_so c.answered-in-Top.result (AreOpen c.args.self.now.cursors all) are })
     (λ s all are refusal. rank_refuses c.in-Top.count c.in-Top.text.now s.documents refusal) (step_asks c.args.line.now c.in-Ok.asked (Top c.in-Top.count c.in-Top.text) c.in-Ok.ensures.reading c.in-Top.is) (λ m. task_reads m c.args.line.now (asks (ranks c.in-Top.count c.in-Top.text.now)) (reading_is c.args.line.now c.in-Ok.asked (Top c.in-Top.count c.in-Top.text) c.in-Ok.ensures.reading c.in-Top.is))
 
 pub returns-in-Top-clause-no_disk : goal.returns-in-Top-clause-no_disk
-returns-in-Top-clause-no_disk g c = λ looks. c.rank.ensures.queries.idles (subst LooksIn (reading_is c.args.line.now c.in-Ok.asked (Top c.in-Top.count c.in-Top.text) c.in-Ok.ensures.reading c.in-Top.is) looks)
+returns-in-Top-clause-no_disk g c = λ looks. c.answered-in-Top.ensures.queries.idles (subst LooksIn (reading_is c.args.line.now c.in-Ok.asked (Top c.in-Top.count c.in-Top.text) c.in-Ok.ensures.reading c.in-Top.is) looks)
 
 pub returns-in-Top-clause-loads : goal.returns-in-Top-clause-loads
 returns-in-Top-clause-loads g c = λ searches.
-    subst (λ (r : Reading). Loads g.D.Disk.tells (loads_in (levels_of c.args.self.now.store) (newest_in c.args.self.now.store) (length c.args.self.now.cursors) r) (g.D.Disk.state c.args.disk.now) (g.D.Disk.state c.rank.new.disk) c.rank.result) (sym (reading_is c.args.line.now c.in-Ok.asked (Top c.in-Top.count c.in-Top.text) c.in-Ok.ensures.reading c.in-Top.is)) c.rank.ensures.queries.loading.loaded
+    subst (λ (r : Reading). Loads g.D.Disk.tells (loads_in (levels_of c.args.self.now.store) (newest_in c.args.self.now.store) (length c.args.self.now.cursors) r) (g.D.Disk.state c.args.disk.now) (g.D.Disk.state c.answered-in-Top.new.disk) c.answered-in-Top.result) (sym (reading_is c.args.line.now c.in-Ok.asked (Top c.in-Top.count c.in-Top.text) c.in-Ok.ensures.reading c.in-Top.is)) c.answered-in-Top.ensures.queries.loading.loaded
 
 pub returns-in-Dump-clause-answers : goal.returns-in-Dump-clause-answers
 returns-in-Dump-clause-answers g c =
@@ -266,21 +266,21 @@ pub returns-in-Delete-clause-works : goal.returns-in-Delete-clause-works
 returns-in-Delete-clause-works g c = subst (λ (r : Reading). Works g.D.Disk.tells g.D.Disk.state c.args.disk.now c.delete.new.disk c.args.self.now.store r c.delete.result) (sym (reading_is c.args.line.now c.in-Ok.asked (Delete c.in-Delete.name) c.in-Ok.ensures.reading c.in-Delete.is)) c.delete.ensures.works
 
 pub returns-in-Flush-clause-works : goal.returns-in-Flush-clause-works
-returns-in-Flush-clause-works g c = subst (λ (r : Reading). Works g.D.Disk.tells g.D.Disk.state c.args.disk.now c.flush.new.disk c.args.self.now.store r c.flush.result) (sym (reading_is c.args.line.now c.in-Ok.asked Flush c.in-Ok.ensures.reading c.in-Flush.is)) c.flush.ensures.works
+returns-in-Flush-clause-works g c = subst (λ (r : Reading). Works g.D.Disk.tells g.D.Disk.state c.args.disk.now c.work.new.disk c.args.self.now.store r c.work.result) (sym (reading_is c.args.line.now c.in-Ok.asked Flush c.in-Ok.ensures.reading c.in-Flush.is)) c.work.ensures.works
 
 pub returns-in-Merge-clause-works : goal.returns-in-Merge-clause-works
-returns-in-Merge-clause-works g c = subst (λ (r : Reading). Works g.D.Disk.tells g.D.Disk.state c.args.disk.now c.merge.new.disk c.args.self.now.store r c.merge.result) (sym (reading_is c.args.line.now c.in-Ok.asked Merge c.in-Ok.ensures.reading c.in-Merge.is)) c.merge.ensures.works
+returns-in-Merge-clause-works g c = subst (λ (r : Reading). Works g.D.Disk.tells g.D.Disk.state c.args.disk.now c.work-in-Merge.new.disk c.args.self.now.store r c.work-in-Merge.result) (sym (reading_is c.args.line.now c.in-Ok.asked Merge c.in-Ok.ensures.reading c.in-Merge.is)) c.work-in-Merge.ensures.works
 
 pub returns-in-Step-clause-works : goal.returns-in-Step-clause-works
-returns-in-Step-clause-works g c = subst (λ (r : Reading). Works g.D.Disk.tells g.D.Disk.state c.args.disk.now c.step.new.disk c.args.self.now.store r c.step.result) (sym (reading_is c.args.line.now c.in-Ok.asked (Step c.in-Step.count) c.in-Ok.ensures.reading c.in-Step.is)) c.step.ensures.works
+returns-in-Step-clause-works g c = subst (λ (r : Reading). Works g.D.Disk.tells g.D.Disk.state c.args.disk.now c.work-in-Step.new.disk c.args.self.now.store r c.work-in-Step.result) (sym (reading_is c.args.line.now c.in-Ok.asked (Step c.in-Step.count) c.in-Ok.ensures.reading c.in-Step.is)) c.work-in-Step.ensures.works
 
 pub returns-in-Search-clause-works : goal.returns-in-Search-clause-works
 returns-in-Search-clause-works g c =
-    subst (λ (r : Reading). Works g.D.Disk.tells g.D.Disk.state c.args.disk.now c.search.new.disk c.args.self.now.store r c.search.result) (sym (reading_is c.args.line.now c.in-Ok.asked (Search c.in-Search.text) c.in-Ok.ensures.reading c.in-Search.is)) (works_searching g.D.Disk.tells g.D.Disk.state c.args.disk.now c.search.new.disk c.args.self.now.store (asks (searches c.in-Search.text.now)) c.search.result tt (λ need gap is. not_full c.search.result need gap c.search.ensures.queries.loading.loaded.only is) (λ none. absurd none))
+    subst (λ (r : Reading). Works g.D.Disk.tells g.D.Disk.state c.args.disk.now c.answered.new.disk c.args.self.now.store r c.answered.result) (sym (reading_is c.args.line.now c.in-Ok.asked (Search c.in-Search.text) c.in-Ok.ensures.reading c.in-Search.is)) (works_searching g.D.Disk.tells g.D.Disk.state c.args.disk.now c.answered.new.disk c.args.self.now.store (asks (searches c.in-Search.text.now)) c.answered.result tt (λ need gap is. not_full c.answered.result need gap c.answered.ensures.queries.loading.loaded.only is) (λ none. absurd none))
 
 pub returns-in-Count-clause-works : goal.returns-in-Count-clause-works
 returns-in-Count-clause-works g c =
-    subst (λ (r : Reading). Works g.D.Disk.tells g.D.Disk.state c.args.disk.now c.count.new.disk c.args.self.now.store r c.count.result) (sym (reading_is c.args.line.now c.in-Ok.asked (Count c.in-Count.text) c.in-Ok.ensures.reading c.in-Count.is)) (works_searching g.D.Disk.tells g.D.Disk.state c.args.disk.now c.count.new.disk c.args.self.now.store (asks (asks_count c.in-Count.text.now)) c.count.result tt (λ need gap is. not_full c.count.result need gap c.count.ensures.queries.loading.loaded.only is) (λ none. absurd none))
+    subst (λ (r : Reading). Works g.D.Disk.tells g.D.Disk.state c.args.disk.now c.answered-in-Count.new.disk c.args.self.now.store r c.answered-in-Count.result) (sym (reading_is c.args.line.now c.in-Ok.asked (Count c.in-Count.text) c.in-Ok.ensures.reading c.in-Count.is)) (works_searching g.D.Disk.tells g.D.Disk.state c.args.disk.now c.answered-in-Count.new.disk c.args.self.now.store (asks (asks_count c.in-Count.text.now)) c.answered-in-Count.result tt (λ need gap is. not_full c.answered-in-Count.result need gap c.answered-in-Count.ensures.queries.loading.loaded.only is) (λ none. absurd none))
 
 pub returns-in-OpenCursor-clause-works : goal.returns-in-OpenCursor-clause-works
 returns-in-OpenCursor-clause-works g c =
@@ -288,7 +288,7 @@ returns-in-OpenCursor-clause-works g c =
 
 pub returns-in-Top-clause-works : goal.returns-in-Top-clause-works
 returns-in-Top-clause-works g c =
-    subst (λ (r : Reading). Works g.D.Disk.tells g.D.Disk.state c.args.disk.now c.rank.new.disk c.args.self.now.store r c.rank.result) (sym (reading_is c.args.line.now c.in-Ok.asked (Top c.in-Top.count c.in-Top.text) c.in-Ok.ensures.reading c.in-Top.is)) (works_searching g.D.Disk.tells g.D.Disk.state c.args.disk.now c.rank.new.disk c.args.self.now.store (asks (ranks c.in-Top.count c.in-Top.text.now)) c.rank.result tt (λ need gap is. not_full c.rank.result need gap c.rank.ensures.queries.loading.loaded.only is) (λ none. absurd none))
+    subst (λ (r : Reading). Works g.D.Disk.tells g.D.Disk.state c.args.disk.now c.answered-in-Top.new.disk c.args.self.now.store r c.answered-in-Top.result) (sym (reading_is c.args.line.now c.in-Ok.asked (Top c.in-Top.count c.in-Top.text) c.in-Ok.ensures.reading c.in-Top.is)) (works_searching g.D.Disk.tells g.D.Disk.state c.args.disk.now c.answered-in-Top.new.disk c.args.self.now.store (asks (ranks c.in-Top.count c.in-Top.text.now)) c.answered-in-Top.result tt (λ need gap is. not_full c.answered-in-Top.result need gap c.answered-in-Top.ensures.queries.loading.loaded.only is) (λ none. absurd none))
 
 pub returns-in-Dump-clause-works : goal.returns-in-Dump-clause-works
 returns-in-Dump-clause-works g c =
