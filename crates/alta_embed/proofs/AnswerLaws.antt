@@ -127,7 +127,7 @@ served_of index lines told told_now left left_now disk disk_now status new all c
 
 -- where the input is not too long
 fits : (index lines : List ℕ) (told_now : List Event) (left_now : List ℕ) (disk disk_now : DiskState) (status : Status) (served : Served index lines told_now left_now disk disk_now status) → (status ≡ RunTooLong → ⊥) → length (taken_in served.run.run) ≤ LINES_LIMIT
-fits index lines told_now left_now disk disk_now status served short = elim (cases_lt LINES_LIMIT (length (taken_in served.run.run))) [ inl long ↦ absurd (short (served.run.too_long.1 long)) | inr within ↦ within ]
+fits index lines told_now left_now disk disk_now status served short = elim (cases_lt LINES_LIMIT (length (taken_in served.run.run))) [ inl long ↦ absurd (short (served.run.failed.too_long.1 long)) | inr within ↦ within ]
 
 -- the first line behind so many is the first behind them of more lines
 reads_on : (P : Reading → Type 0) (n : ℕ) (xs ys : List (List ℕ)) → ReadsFirst P (drop n xs) → ReadsFirst P (drop n (xs ++ ys))
@@ -169,7 +169,7 @@ answers_done index lines told_now left_now disk disk_now status given t served g
     let within : length lines ≤ LINES_LIMIT = omega (arith, short, ap length all) in
     record {
       replies = λ s stands.
-          let answered : (has_ended served.run.run ≡ true) × (given_in served.run.run ≡ concat (replies (started_at s) (lines_in LINES_LIMIT served.run.run))) = (served.run.replies s tt (subst (StandsFor s) (sym served.content) stands)).all done in
+          let answered : (has_ended served.run.run ≡ true) × (given_in served.run.run ≡ concat (replies (started_at s) (lines_in LINES_LIMIT served.run.run))) = (served.run.throughout.replies s tt (subst (StandsFor s) (sym served.content) stands)).all done in
           gave ∙ (ap given_in (told_run told_now served.run.run served.run.grew) ∙ (answered.1 ∙ ap (λ (l : List (List ℕ)). concat (replies (started_at s) l)) (all_lines LINES_LIMIT lines served.run.run answered.0 all within)));
       within = within;
       caused = tt;
@@ -186,13 +186,13 @@ caused index lines told_now left_now disk disk_now status refusal served from = 
       ⊎_elim
       (λ broken. inl (subst (λ (c : List ℕ). IsBrokenAt c place) served.content broken))
       (λ finds. inr (finds_damage lines left_now disk_now.content served.run.run (length served.run.replied.gives.texts) place served.run.read (fits index lines told_now left_now disk disk_now status served (λ long. cc)) finds))
-      (served.run.damaged place tt is);
+      (served.run.failed.damaged place tt is);
   full = λ need gap same.
       let is : status ≡ RunFull need gap = subst (λ (r : Refusal). ComesFrom r status) same from in
-      wants_place disk_now.limit lines left_now disk_now.content served.run.run (length served.run.replied.gives.texts) need gap served.run.read (fits index lines told_now left_now disk disk_now status served (λ long. cc)) served.limit (served.run.wanting need gap tt is);
+      wants_place disk_now.limit lines left_now disk_now.content served.run.run (length served.run.replied.gives.texts) need gap served.run.read (fits index lines told_now left_now disk disk_now status served (λ long. cc)) served.limit (served.run.failed.wanting need gap tt is);
   too_long = λ same.
       let is : status ≡ RunTooLong = subst (λ (r : Refusal). ComesFrom r status) same from in
-      omega (arith, served.run.too_long.0 is, taken_fits lines left_now (taken_in served.run.run) served.run.read);
+      omega (arith, served.run.failed.too_long.0 is, taken_fits lines left_now (taken_in served.run.run) served.run.read);
   no_room = λ s need stands same. absurd (subst (λ (r : Refusal). ComesFrom r status) same from);
 }
 

@@ -99,23 +99,29 @@ serves_none tells limit told left d e status lawful lawful_now passes same settl
   run = [];
   grew = grows_none told;
   read = consumes_none left;
-  too_long = (λ long. absurd (not_long long), λ past. absurd (omega arith));
-  last = λ past. absurd (omega arith);
   replied = record { gives = no_replies limit; in_time = λ k t. absurd t; all = λ done. absurd (not_done done) };
-  damaged = λ place tell is. inl (broken place tell is);
-  wanting = λ need gap tell is. absurd (not_full need gap is);
-  firm = λ tell some all. absurd (some refl);
-  spoken = λ s tell speaks. ⊎_elim (λ failed. inl (record { failed = failed; none = refl; same = passes })) (λ only. inr (spoken_since tells limit d e s lawful passes (same tell) only speaks)) settled;
-  replies = λ s tell stands. record { begin = ([], refl); all = λ done. absurd (not_done done); in_time = λ k t. absurd t };
-  full = λ s held tell stands here. full_exactly d.limit (started_at s) held [] [] status (λ need gap is. absurd (not_full need gap is)) (inr (held, refl));
-  levels = λ s held tell stands here all. record { now = held; is = refl; held = subst (IsHeld held) (sym (same tell)) here.is };
-  settled = λ s tell stands all some. absurd (omega (arith, some));
-  keeps = λ s tell stands. record {
-    now = λ c here. keeps_none limit s c (same_stands (StandsFor s) d e passes stands.images c here);
-    ever = opens_only tells d e (StandsAfterSome (started_at s) []) lawful passes (λ c here. some_none StandsFor (started_at s) [] c (stands.images c here));
+  done = record {
+    levels = λ s held tell stands here all. record { now = held; is = refl; held = subst (IsHeld held) (sym (same tell)) here.is };
+    settled = λ s tell stands all some. absurd (omega (arith, some));
   };
-  reopened = λ s tell stands. ⊎_elim (λ failed. inl (record { failed = failed; none = refl; same = passes })) (λ only. inr (since_sync tells limit d e s lawful lawful_now passes tell (same tell) only stands)) settled;
-  reads = λ s tell stands all. omega (arith, read tell stands.opened.slot stands.opened.root stands.counts);
+  failed = record {
+    too_long = (λ long. absurd (not_long long), λ past. absurd (omega arith));
+    last = λ past. absurd (omega arith);
+    damaged = λ place tell is. inl (broken place tell is);
+    wanting = λ need gap tell is. absurd (not_full need gap is);
+    full = λ s held tell stands here. full_exactly d.limit (started_at s) held [] [] status (λ need gap is. absurd (not_full need gap is)) (inr (held, refl));
+  };
+  throughout = record {
+    firm = λ tell some all. absurd (some refl);
+    spoken = λ s tell speaks. ⊎_elim (λ failed. inl (record { failed = failed; none = refl; same = passes })) (λ only. inr (spoken_since tells limit d e s lawful passes (same tell) only speaks)) settled;
+    replies = λ s tell stands. record { begin = ([], refl); all = λ done. absurd (not_done done); in_time = λ k t. absurd t };
+    keeps = λ s tell stands. record {
+      now = λ c here. keeps_none limit s c (same_stands (StandsFor s) d e passes stands.images c here);
+      ever = opens_only tells d e (StandsAfterSome (started_at s) []) lawful passes (λ c here. some_none StandsFor (started_at s) [] c (stands.images c here));
+    };
+    reopened = λ s tell stands. ⊎_elim (λ failed. inl (record { failed = failed; none = refl; same = passes })) (λ only. inr (since_sync tells limit d e s lawful lawful_now passes tell (same tell) only stands)) settled;
+    reads = λ s tell stands all. omega (arith, read tell stands.opened.slot stands.opened.root stands.counts);
+  };
 }
 
 -- what an image has, as a session has it behind its opening
@@ -169,7 +175,7 @@ holds_answered limit start run image keeps = record {
 pub holds_replied : (tells : Type 0) (limit : ℕ) (told told_now : Option (List Event)) (left left_now : Option (List ℕ)) (d e : DiskState) (status : Status) (s : State) → tells → Stands tells d (MaySpeakOf s) → (serves : Serves tells limit told told_now left left_now d e status)
     → Each e.images (SpeaksAfter (length serves.replied.gives.texts) (started_at s) (lines_in limit serves.run))
 holds_replied tells limit told told_now left left_now d e status s tell stands serves =
-    ⊎_elim none (λ keeps. keeps.now) (serves.spoken s tell (stands.content tell))
+    ⊎_elim none (λ keeps. keeps.now) (serves.throughout.spoken s tell (stands.content tell))
   where
     none : NotOpened d e serves.run status → Each e.images (SpeaksAfter (length serves.replied.gives.texts) (started_at s) (lines_in limit serves.run))
     none closed c here =
@@ -180,7 +186,7 @@ holds_replied tells limit told told_now left left_now d e status s tell stands s
 -- and where each line may change the index, these lines are found by their replies
 pub holds_changes : (tells : Type 0) (limit : ℕ) (told told_now : Option (List Event)) (left left_now : Option (List ℕ)) (d e : DiskState) (status : Status) (s : State) → tells → Stands tells d (MaySpeakOf s) → (serves : Serves tells limit told told_now left left_now d e status)
     → All MayChange (lines_in limit serves.run) → Each e.images (HoldsAnswered MaySpeakOf (started_at s) (lines_in limit serves.run) (given_in serves.run))
-holds_changes tells limit told told_now left left_now d e status s tell stands serves changes = ⊎_elim none some (serves.spoken s tell (stands.content tell))
+holds_changes tells limit told told_now left left_now d e status s tell stands serves changes = ⊎_elim none some (serves.throughout.spoken s tell (stands.content tell))
   where
     none : NotOpened d e serves.run status → Each e.images (HoldsAnswered MaySpeakOf (started_at s) (lines_in limit serves.run) (given_in serves.run))
     none closed c here = record {
@@ -222,47 +228,53 @@ serves_opened tells limit told told_now left left_now d m e session status lawfu
   run = runs.run;
   grew = runs.grew;
   read = runs.read;
-  too_long = runs.too_long;
-  last = runs.last;
   replied = runs.replied;
-  damaged = λ place tell is. inr (runs.damaged place tell is);
-  wanting = λ need gap tell is. runs.wanting need gap tell is;
-  firm = λ tell some all. runs.settled all tell store.settled;
-  spoken = λ s tell speaks.
-      let one : SpeaksWithin m e (lines_in limit runs.run) runs.replied.gives.texts runs.replied.gives.part (started_at s) = runs.spoken (started_at s) tell (record { store = store; speaks = λ told. subst (MaySpeakOf s) (sym (same tell)) speaks }) in
-      inr (record {
-        replies = one.replies;
-        now = one.now;
-        ever = λ c here. ⊎_elim (λ old. inl (older tells d m c lawful passes old)) (λ some. inr some) (one.images.between d.clock c passes.later here);
-      });
-  replies = λ s tell stands. (runs.each (started_at s) tell (agrees s tell stands)).replies;
-  full = λ s held tell stands here. full_before limit d m e session runs.run status (started_at s) held same_limit (runs.each (started_at s) tell (agrees s tell stands)) (opened_by tells d m session held lawful_now tell none (same tell) here);
-  levels = λ s held tell stands here all. levels_before limit d m e session runs.run status (started_at s) held same_limit (runs.each (started_at s) tell (agrees s tell stands)) (opened_by tells d m session held lawful_now tell none (same tell) here) all;
-  settled = λ s tell stands all some.
-      let held = held_of s d.content stands in
-      ((runs.each (started_at s) tell (agrees s tell stands)).levels held.0 (opened_by tells d m session held.0 lawful_now tell none (same tell) held.1) all).1;
-  keeps = λ s tell stands.
-      let one : KeepsPrefix limit (started_at s) runs.run m e = (runs.each (started_at s) tell (agrees s tell (stands.content tell))).keeps in
-      let lines : List (List ℕ) = lines_in limit runs.run in
-      record {
-        now = one.now;
-        ever = leaves_then d m e (StandsAfterSome (started_at s) lines) (opens_only tells d m (StandsAfterSome (started_at s) lines) lawful passes (λ c here. some_none StandsFor (started_at s) lines c (stands.images c here))) one.ever;
-      };
-  reopened = λ s tell stands.
-      let one : KeepsPrefix limit (started_at s) runs.run m e = (runs.each (started_at s) tell (agrees s tell stands)).keeps in
-      inr (record {
-        moment = m.clock;
-        not_before = passes.later;
-        not_after = one.ever.later;
-        still = one.ever.keeps m.clock d.content (omega arith) (subst (λ (c : List ℕ). m.since m.clock c) (same tell) (lawful_now.counts_now m.clock m.content (omega arith) (lawful_now.present tell)));
-        now = one.now;
-        since = one.ever.each;
-        ever = λ c here. ⊎_elim (λ old. inl (older tells d m c lawful passes old)) (λ some. inr some) (one.ever.between d.clock c passes.later here);
-      });
-  reads = λ s tell stands all.
-      omega (
-        arith,
-        read tell stands.opened.slot stands.opened.root stands.counts,
-        spends_opened m e session (started_at s) (lines_in limit runs.run) stands.opened (keeps stands.opened tell (opened_of s d.content stands)) (runs.each (started_at s) tell (agrees s tell stands)).spends all,
-      );
+  done = record {
+    levels = λ s held tell stands here all. levels_before limit d m e session runs.run status (started_at s) held same_limit (runs.each (started_at s) tell (agrees s tell stands)) (opened_by tells d m session held lawful_now tell none (same tell) here) all;
+    settled = λ s tell stands all some.
+        let held = held_of s d.content stands in
+        ((runs.each (started_at s) tell (agrees s tell stands)).levels held.0 (opened_by tells d m session held.0 lawful_now tell none (same tell) held.1) all).1;
+  };
+  failed = record {
+    too_long = runs.too_long;
+    last = runs.last;
+    damaged = λ place tell is. inr (runs.damaged place tell is);
+    wanting = λ need gap tell is. runs.wanting need gap tell is;
+    full = λ s held tell stands here. full_before limit d m e session runs.run status (started_at s) held same_limit (runs.each (started_at s) tell (agrees s tell stands)) (opened_by tells d m session held lawful_now tell none (same tell) here);
+  };
+  throughout = record {
+    firm = λ tell some all. runs.settled all tell store.settled;
+    spoken = λ s tell speaks.
+        let one : SpeaksWithin m e (lines_in limit runs.run) runs.replied.gives.texts runs.replied.gives.part (started_at s) = runs.spoken (started_at s) tell (record { store = store; speaks = λ told. subst (MaySpeakOf s) (sym (same tell)) speaks }) in
+        inr (record {
+          replies = one.replies;
+          now = one.now;
+          ever = λ c here. ⊎_elim (λ old. inl (older tells d m c lawful passes old)) (λ some. inr some) (one.images.between d.clock c passes.later here);
+        });
+    replies = λ s tell stands. (runs.each (started_at s) tell (agrees s tell stands)).replies;
+    keeps = λ s tell stands.
+        let one : KeepsPrefix limit (started_at s) runs.run m e = (runs.each (started_at s) tell (agrees s tell (stands.content tell))).keeps in
+        let lines : List (List ℕ) = lines_in limit runs.run in
+        record {
+          now = one.now;
+          ever = leaves_then d m e (StandsAfterSome (started_at s) lines) (opens_only tells d m (StandsAfterSome (started_at s) lines) lawful passes (λ c here. some_none StandsFor (started_at s) lines c (stands.images c here))) one.ever;
+        };
+    reopened = λ s tell stands.
+        let one : KeepsPrefix limit (started_at s) runs.run m e = (runs.each (started_at s) tell (agrees s tell stands)).keeps in
+        inr (record {
+          moment = m.clock;
+          not_before = passes.later;
+          not_after = one.ever.later;
+          still = one.ever.keeps m.clock d.content (omega arith) (subst (λ (c : List ℕ). m.since m.clock c) (same tell) (lawful_now.counts_now m.clock m.content (omega arith) (lawful_now.present tell)));
+          now = one.now;
+          since = one.ever.each;
+          ever = λ c here. ⊎_elim (λ old. inl (older tells d m c lawful passes old)) (λ some. inr some) (one.ever.between d.clock c passes.later here);
+        });
+    reads = λ s tell stands all.
+        omega (
+          arith,
+          read tell stands.opened.slot stands.opened.root stands.counts,
+          spends_opened m e session (started_at s) (lines_in limit runs.run) stands.opened (keeps stands.opened tell (opened_of s d.content stands)) (runs.each (started_at s) tell (agrees s tell stands)).spends all,
+        );
+  };
 }

@@ -133,21 +133,34 @@ pub record KeepsReplied (limit : ℕ) (start : Machine) (run : List Event)
   pub ever : (image : List ℕ) → disk_now.since disk.clock image → disk.images image
       ⊎ SpeaksAfterSome start (lines_in limit run) image
 
--- A run that opens what is on the disk.
-pub record Serves (tells : Type 0) (limit : ℕ) (told told_now : Option (List Event)) (left left_now : Option (List ℕ))
-    (disk disk_now : DiskState) (status : Status) : Type 0 where
-  pub run : List Event
-  pub grew : Grows told told_now run
-  pub read : Consumes left left_now (taken_in run)
+-- What holds at the end of a run that answered each line.
+pub record ServesDone (tells : Type 0) (limit : ℕ) (disk disk_now : DiskState) (run : List Event) : Type 0 where
+  -- where the content stands for a state and has this, and each line was answered: the levels, extents, deleted ends and entries at the end
+  -- are those that the work of the lines gives; and where there were lines, nothing is pending
+  pub levels : (s : State) (held : Holding) → tells → StandsFor s disk.content → IsFirst disk.content held
+      → AnswersAll limit (started_at s) run
+      → IsWorked (worked_lines disk.limit (started_at s) held (lines_in limit run)) (IsOn disk_now.content)
+  pub settled : (s : State) → tells → StandsFor s disk.content → AnswersAll limit (started_at s) run
+      → 0 < length (lines_in limit run) → Only disk_now.content disk_now.images
+
+-- How a run ends before its input does, and why.
+pub record ServesFailed (tells : Type 0) (limit : ℕ) (disk disk_now : DiskState) (status : Status) (run : List Event)
+    (replied : Replied limit run status) : Type 0 where
   pub too_long : (status ≡ TooLong) ↔ (limit < length (taken_in run))
   pub last : limit < length (taken_in run) → EndsPast limit run
-  pub replied : Replied limit run status
   -- damage is found as the index is opened, or by the first line without a whole reply
   pub damaged : (place : ℕ) → tells → status ≡ Damaged place → IsBrokenAt disk.content place
       ⊎ FirstFindsDamage disk_now.content (unanswered limit run status replied) place
   -- and a place is wanting where the work of that line finds none
   pub wanting : (need gap : ℕ) → tells → status ≡ Full need gap
       → FirstWantsPlace disk_now.limit disk_now.content (unanswered limit run status replied) need gap
+  -- where the content stands for a state and has this
+  pub full : (s : State) (held : Holding) → tells → StandsFor s disk.content → IsFirst disk.content held
+      → IsFullExactly disk.limit held (started_at s) (lines_in limit run) (given_in run) status
+
+-- What holds at each moment of a run, however it ends.
+pub record ServesThroughout (tells : Type 0) (limit : ℕ) (disk disk_now : DiskState) (status : Status)
+    (run : List Event) (replied : Replied limit run status) : Type 0 where
   -- Whatever was pending at the start, nothing is at the end of a run that took something and whose lines change nothing, also where a call
   -- failed. So the opening syncs before the first take: a later sync might fail.
   pub firm : tells → run ≢ [] → All OnlyReads (lines_in limit run) → Only disk_now.content disk_now.images
@@ -156,16 +169,6 @@ pub record Serves (tells : Type 0) (limit : ℕ) (told told_now : Option (List E
       ⊎ KeepsReplied limit (started_at s) run replied.gives disk disk_now
   -- where the content stands for a state
   pub replies : (s : State) → tells → StandsFor s disk.content → Replies limit (started_at s) run status
-  -- and has this
-  pub full : (s : State) (held : Holding) → tells → StandsFor s disk.content → IsFirst disk.content held
-      → IsFullExactly disk.limit held (started_at s) (lines_in limit run) (given_in run) status
-  -- and each line was answered: the levels, extents, deleted ends and entries at the end are those that the work of the lines gives; and
-  -- where there were lines, nothing is pending
-  pub levels : (s : State) (held : Holding) → tells → StandsFor s disk.content → IsFirst disk.content held
-      → AnswersAll limit (started_at s) run
-      → IsWorked (worked_lines disk.limit (started_at s) held (lines_in limit run)) (IsOn disk_now.content)
-  pub settled : (s : State) → tells → StandsFor s disk.content → AnswersAll limit (started_at s) run
-      → 0 < length (lines_in limit run) → Only disk_now.content disk_now.images
   -- where each image stands for a state
   pub keeps : (s : State) → tells → Stands tells disk (StandsFor s) → KeepsPrefix limit (started_at s) run disk disk_now
   -- where the content does, whatever was pending
@@ -175,3 +178,14 @@ pub record Serves (tells : Type 0) (limit : ℕ) (told told_now : Option (List E
   pub reads : (s : State) → tells → (stands : StandsFor s disk.content) → All OnlyReads (lines_in limit run)
       → disk_now.taken ≤ disk.taken + (opening_bytes stands.opened.root disk.content
       + lines_bytes stands.opened.levels (newest_of_opened stands.opened) (started_at s) (lines_in limit run))
+
+-- A run that opens what is on the disk.
+pub record Serves (tells : Type 0) (limit : ℕ) (told told_now : Option (List Event)) (left left_now : Option (List ℕ))
+    (disk disk_now : DiskState) (status : Status) : Type 0 where
+  pub run : List Event
+  pub grew : Grows told told_now run
+  pub read : Consumes left left_now (taken_in run)
+  pub replied : Replied limit run status
+  pub done : ServesDone tells limit disk disk_now run
+  pub failed : ServesFailed tells limit disk disk_now status run replied
+  pub throughout : ServesThroughout tells limit disk disk_now status run replied
