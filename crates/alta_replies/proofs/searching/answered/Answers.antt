@@ -58,8 +58,8 @@ returns-in-Ok-load-clause-queries g c =
     (other_written c.written.result c.counted.result c.written.ensures.reply c.counted.ensures.other))
 
 -- they were not
-pub returns-in-Err-load-clause-queries : goal.returns-in-Err-load-clause-queries
-returns-in-Err-load-clause-queries g c =
+pub returns-clause-queries : goal.returns-clause-queries
+returns-clause-queries g c =
     let q = shape c.in-Ok.query in let store = c.args.store.now in let text = c.args.text.now in let ask = c.args.ask in
     let is = parsed c.parse.result c.in-Ok.query text c.in-Ok.is c.parse.ensures.reading in
     queries_found g.D.Disk.tells g.D.Disk.state c.args.disk.now c.load.new.disk store c.args.kept.now c.load.new.kept (order_loads store (asked_tests ask (plan_of q))) (asked_loads ask store text) (IsNoQuery text) _

@@ -16,7 +16,7 @@ returns-in-Count g c =
     writes_of _ c.args.ask _ (shape c.args.query.now) c.tally.result c.in-Count.is
     (writes_weaker (AreToCome (tree c.args.plan.now) c.args.snapshot.now 0) _ _ c.tally.result (λ documents are. are.0) c.tally.ensures)
 
-pub returns-in-Best : goal.returns-in-Best
-returns-in-Best g c =
+pub returns : goal.returns
+returns g c =
     writes_of _ c.args.ask _ (shape c.args.query.now) c.best.result c.in-Best.is
     (writes_weaker (AreToRank (tree c.args.plan.now) c.args.snapshot.now) _ _ c.best.result (λ documents are. are.1) c.best.ensures)

@@ -86,14 +86,14 @@ returns-in-Step-clause-no_disk g c = λ looks. absurd (subst LooksIn (reading_is
 pub answered-requires : goal.answered-requires
 answered-requires g c = record { agrees = c.requires.can.agrees; known = c.requires.can.known }
 
-pub answered-requires-2 : goal.answered-requires-2
-answered-requires-2 g c = record { agrees = c.requires.can.agrees; known = c.requires.can.known }
+pub answered-requires-in-Count : goal.answered-requires-in-Count
+answered-requires-in-Count g c = record { agrees = c.requires.can.agrees; known = c.requires.can.known }
 
 pub open-requires : goal.open-requires
 open-requires g c = record { agrees = c.requires.can.agrees; known = c.requires.can.known }
 
-pub answered-requires-3 : goal.answered-requires-3
-answered-requires-3 g c = record { agrees = c.requires.can.agrees; known = c.requires.can.known }
+pub answered-requires-in-Top : goal.answered-requires-in-Top
+answered-requires-in-Top g c = record { agrees = c.requires.can.agrees; known = c.requires.can.known }
 
 pub dump-requires : goal.dump-requires
 dump-requires g c = record { agrees = c.requires.can.agrees; known = c.requires.can.known }
