@@ -87,31 +87,76 @@ pub changes_idle : (tells : Type 0) (work : Work) (turns : Turns) (bytes : ℕ) 
     → IsLawful tells a → Agrees tells a store → (tells → joins ≡ []) → ((held : Holding) → tells → Has store held a.content → work a.limit held ≡ Ok held)
     → ((o : Opened) → tells → IsOpened o a.content → turns a.limit o (Ok o) × Keeps store o) → Changes tells work turns (λ s. s) NoRefusal bytes joins a a store store (Ok u)
 changes_idle tells work turns bytes joins a store u lawful agrees none same still = record {
-  agrees = agrees;
-  sound = refl;
-  knows = λ s knows. knows;
-  levels = λ here. stay_here tells a store store refl;
-  works = λ held told has. (held, same held told has, has);
-  full = λ held need gap told has e. absurd (not_ok (faults.Full need gap) e);
-  images = λ s stands. leaves_start tells a (StandsForEither s s) lawful (λ image here. inl (images_stand tells a s lawful agrees.settled stands image here));
-  stands = λ s told stands. stands;
-  between = λ s speaks. leaves_start tells a (MaySpeakOfEither s s) lawful (λ image here. inl (images_have tells a (MaySpeakOf s) lawful agrees.settled speaks image here));
-  speaks = λ s told speaks. speaks;
-  becomes = λ o told opened. (o, (still o told opened).0, opened, (still o told opened).1);
-  lacks = λ o need gap told opened e. absurd (not_ok (faults.Full need gap) e);
-  narrow = λ need gap told e. absurd (not_ok (faults.Full need gap) e);
-  damage = λ told. finds_none NoRefusal a.content joins (Ok u) (none told) (λ place e. not_ok (faults.Damaged place) e);
-  undamaged = λ s told stands place e. not_ok (faults.Damaged place) e;
-  unread = λ told none place e. not_ok (faults.Damaged place) e;
-  still = λ told place e. absurd (not_ok (faults.Damaged place) e);
-  unwritten = λ told need gap e. absurd (not_ok (faults.Full need gap) e);
-  only = tt;
-  cause = λ e. absurd (not_ok faults.Disk e);
-  costs = costs_none (bytes + sum_by data_size joins) a;
+  done = record {
+    agrees = agrees;
+    sound = refl;
+    knows = λ s knows. knows;
+    levels = λ here. stay_here tells a store store refl;
+    works = λ held told has. (held, same held told has, has);
+    stands = λ s told stands. stands;
+    speaks = λ s told speaks. speaks;
+    becomes = λ o told opened. (o, (still o told opened).0, opened, (still o told opened).1);
+  };
+  failed = record {
+    full = λ held need gap told has e. absurd (not_ok (faults.Full need gap) e);
+    lacks = λ o need gap told opened e. absurd (not_ok (faults.Full need gap) e);
+    narrow = λ need gap told e. absurd (not_ok (faults.Full need gap) e);
+    damage = λ told. finds_none NoRefusal a.content joins (Ok u) (none told) (λ place e. not_ok (faults.Damaged place) e);
+    undamaged = λ s told stands place e. not_ok (faults.Damaged place) e;
+    unread = λ told none place e. not_ok (faults.Damaged place) e;
+    still = λ told place e. absurd (not_ok (faults.Damaged place) e);
+    unwritten = λ told need gap e. absurd (not_ok (faults.Full need gap) e);
+    only = tt;
+    cause = λ e. absurd (not_ok faults.Disk e);
+  };
+  throughout = record {
+    images = λ s stands. leaves_start tells a (StandsForEither s s) lawful (λ image here. inl (images_stand tells a s lawful agrees.settled stands image here));
+    between = λ s speaks. leaves_start tells a (MaySpeakOfEither s s) lawful (λ image here. inl (images_have tells a (MaySpeakOf s) lawful agrees.settled speaks image here));
+    costs = costs_none (bytes + sum_by data_size joins) a;
+  };
 }
   where
     not_ok : (fault : StoreFault) → ◌≡◌ {A = Result (Unit {0}) StoreFault} (Ok u) (Err fault) → ⊥
     not_ok fault e = absurd cc
+
+-- memory was wanting, and nothing was called
+pub changes_wanting : {T : Type 0} (tells : Type 0) (work : Work) (turns : Turns) (bytes : ℕ) (joins : List Tables) (a : DiskState) (store later : Store) (fault : StoreFault)
+    → IsLawful tells a → Agrees tells a store → fault ≡ faults.Memory → Changes {T = T} tells work turns (λ s. s) NoRefusal bytes joins a a store later (Err fault)
+changes_wanting {T} tells work turns bytes joins a store later fault lawful agrees is = record {
+  done = record {
+    agrees = tt;
+    sound = tt;
+    knows = λ s knows. tt;
+    levels = tt;
+    works = λ held told has. tt;
+    stands = λ s told stands. tt;
+    speaks = λ s told speaks. tt;
+    becomes = λ o told opened. tt;
+  };
+  failed = record {
+    full = λ held need gap told has e. absurd (not_full need gap e);
+    lacks = λ o need gap told opened e. absurd (not_full need gap e);
+    narrow = λ need gap told e. absurd (not_full need gap e);
+    damage = λ told. finds_outside NoRefusal a.content joins fault (inl is) (not_damaged fault (inl is));
+    undamaged = λ s told stands place e. not_damaged fault (inl is) place e;
+    unread = λ told none place e. not_damaged fault (inl is) place e;
+    still = λ told place e. refl;
+    unwritten = λ told need gap e. refl;
+    only = inl (inl is);
+    cause = λ e. absurd (not_disk e);
+  };
+  throughout = record {
+    images = λ s stands. leaves_start tells a (StandsForEither s s) lawful (λ image here. inl (images_stand tells a s lawful agrees.settled stands image here));
+    between = λ s speaks. leaves_start tells a (MaySpeakOfEither s s) lawful (λ image here. inl (images_have tells a (MaySpeakOf s) lawful agrees.settled speaks image here));
+    costs = costs_none (bytes + sum_by data_size joins) a;
+  };
+}
+  where
+    not_full : (need gap : ℕ) → ◌≡◌ {A = Result T StoreFault} (Err fault) (Err (faults.Full need gap)) → ⊥
+    not_full need gap e = absurd cc
+
+    not_disk : ◌≡◌ {A = Result T StoreFault} (Err fault) (Err faults.Disk) → ⊥
+    not_disk e = absurd cc
 
 -- ---- the same in other words
 
@@ -119,81 +164,99 @@ pub changes_as : {T : Type 0} (tells : Type 0) (work work' : Work) (turns turns'
     → ((held : Holding) → tells → Has store held a.content → work a.limit held ≡ work' a.limit held) → ((o : Opened) (outcome : Result Opened Full) → tells → IsOpened o a.content → turns a.limit o outcome → turns' a.limit o outcome) → ((e : StoreFault) → refuses e → refuses' e)
     → Changes tells work turns step refuses bytes joins a b store later result → Changes tells work' turns' step refuses' bytes joins a b store later result
 changes_as {T} tells work work' turns turns' step refuses refuses' bytes joins a b store later (Ok x) same leads may c = record {
-  agrees = c.agrees;
-  sound = c.sound;
-  knows = c.knows;
-  levels = c.levels;
-  works = λ held told has. let w = c.works held told has in (w.0, sym (same held told has) ∙ w.1, w.2);
-  full = λ held need gap told has e. sym (same held told has) ∙ c.full held need gap told has e;
-  images = c.images;
-  stands = c.stands;
-  between = c.between;
-  speaks = c.speaks;
-  becomes = λ o told opened. let w = c.becomes o told opened in (w.0, leads o (Ok w.0) told opened w.1, w.2, w.3);
-  lacks = λ o need gap told opened e. leads o (Err (record { need = need; gap = gap })) told opened (c.lacks o need gap told opened e);
-  narrow = c.narrow;
-  damage = λ told. let d = c.damage told in record { first = d.first; broken = d.broken; damaged = λ place damage. absurd (d.damaged place damage).0 };
-  undamaged = c.undamaged;
-  unread = c.unread;
-  still = c.still;
-  unwritten = c.unwritten;
-  only = tt;
-  cause = c.cause;
-  costs = c.costs;
+  done = record {
+    agrees = c.done.agrees;
+    sound = c.done.sound;
+    knows = c.done.knows;
+    levels = c.done.levels;
+    works = λ held told has. let w = c.done.works held told has in (w.0, sym (same held told has) ∙ w.1, w.2);
+    stands = c.done.stands;
+    speaks = c.done.speaks;
+    becomes = λ o told opened. let w = c.done.becomes o told opened in (w.0, leads o (Ok w.0) told opened w.1, w.2, w.3);
+  };
+  failed = record {
+    full = λ held need gap told has e. sym (same held told has) ∙ c.failed.full held need gap told has e;
+    lacks = λ o need gap told opened e. leads o (Err (record { need = need; gap = gap })) told opened (c.failed.lacks o need gap told opened e);
+    narrow = c.failed.narrow;
+    damage = λ told. let d = c.failed.damage told in record { first = d.first; broken = d.broken; damaged = λ place damage. absurd (d.damaged place damage).0 };
+    undamaged = c.failed.undamaged;
+    unread = c.failed.unread;
+    still = c.failed.still;
+    unwritten = c.failed.unwritten;
+    only = tt;
+    cause = c.failed.cause;
+  };
+  throughout = record {
+    images = c.throughout.images;
+    between = c.throughout.between;
+    costs = c.throughout.costs;
+  };
 }
 changes_as {T} tells work work' turns turns' step refuses refuses' bytes joins a b store later (Err fault) same leads may c = record {
-  agrees = tt;
-  sound = tt;
-  knows = λ s knows. tt;
-  levels = tt;
-  works = λ held told has. tt;
-  full = λ held need gap told has e. sym (same held told has) ∙ c.full held need gap told has e;
-  images = c.images;
-  stands = λ s told stands. tt;
-  between = c.between;
-  speaks = λ s told speaks. tt;
-  becomes = λ o told opened. tt;
-  lacks = λ o need gap told opened e. leads o (Err (record { need = need; gap = gap })) told opened (c.lacks o need gap told opened e);
-  narrow = c.narrow;
-  damage = λ told. let d = c.damage told in record { first = d.first; broken = d.broken; damaged = λ place damage. (tt, damaged_as refuses refuses' may place fault (d.damaged place damage).1) };
-  undamaged = c.undamaged;
-  unread = c.unread;
-  still = c.still;
-  unwritten = c.unwritten;
-  only = cause_as refuses refuses' may fault c.only;
-  cause = c.cause;
-  costs = c.costs;
+  done = record {
+    agrees = tt;
+    sound = tt;
+    knows = λ s knows. tt;
+    levels = tt;
+    works = λ held told has. tt;
+    stands = λ s told stands. tt;
+    speaks = λ s told speaks. tt;
+    becomes = λ o told opened. tt;
+  };
+  failed = record {
+    full = λ held need gap told has e. sym (same held told has) ∙ c.failed.full held need gap told has e;
+    lacks = λ o need gap told opened e. leads o (Err (record { need = need; gap = gap })) told opened (c.failed.lacks o need gap told opened e);
+    narrow = c.failed.narrow;
+    damage = λ told. let d = c.failed.damage told in record { first = d.first; broken = d.broken; damaged = λ place damage. (tt, damaged_as refuses refuses' may place fault (d.damaged place damage).1) };
+    undamaged = c.failed.undamaged;
+    unread = c.failed.unread;
+    still = c.failed.still;
+    unwritten = c.failed.unwritten;
+    only = cause_as refuses refuses' may fault c.failed.only;
+    cause = c.failed.cause;
+  };
+  throughout = record {
+    images = c.throughout.images;
+    between = c.throughout.between;
+    costs = c.throughout.costs;
+  };
 }
 
 -- what a call that was done answers makes no difference, nor by what it may be refused
 pub changes_ok : {T X : Type 0} (tells : Type 0) (work : Work) (turns : Turns) (step : State → State) (refuses refuses' : StoreFault → Type 0) (bytes : ℕ) (joins : List Tables) (a b : DiskState) (store later : Store) (x : T) (y : X)
     → Changes tells work turns step refuses bytes joins a b store later (Ok x) → Changes tells work turns step refuses' bytes joins a b store later (Ok y)
 changes_ok {T} {X} tells work turns step refuses refuses' bytes joins a b store later x y c = record {
-  agrees = c.agrees;
-  sound = c.sound;
-  knows = c.knows;
-  levels = c.levels;
-  works = c.works;
-  full = λ held need gap told has e. absurd (not_ok (faults.Full need gap) e);
-  images = c.images;
-  stands = c.stands;
-  between = c.between;
-  speaks = c.speaks;
-  becomes = c.becomes;
-  lacks = λ o need gap told opened e. absurd (not_ok (faults.Full need gap) e);
-  narrow = λ need gap told e. absurd (not_ok (faults.Full need gap) e);
-  damage = λ told. record {
-    first = λ place e. absurd (not_ok (faults.Damaged place) e);
-    broken = λ place e. absurd (not_ok (faults.Damaged place) e);
-    damaged = λ place damage. absurd ((c.damage told).damaged place damage).0;
+  done = record {
+    agrees = c.done.agrees;
+    sound = c.done.sound;
+    knows = c.done.knows;
+    levels = c.done.levels;
+    works = c.done.works;
+    stands = c.done.stands;
+    speaks = c.done.speaks;
+    becomes = c.done.becomes;
   };
-  undamaged = λ s told stands place e. not_ok (faults.Damaged place) e;
-  unread = λ told none place e. not_ok (faults.Damaged place) e;
-  still = λ told place e. absurd (not_ok (faults.Damaged place) e);
-  unwritten = λ told need gap e. absurd (not_ok (faults.Full need gap) e);
-  only = tt;
-  cause = λ e. absurd (not_ok faults.Disk e);
-  costs = c.costs;
+  failed = record {
+    full = λ held need gap told has e. absurd (not_ok (faults.Full need gap) e);
+    lacks = λ o need gap told opened e. absurd (not_ok (faults.Full need gap) e);
+    narrow = λ need gap told e. absurd (not_ok (faults.Full need gap) e);
+    damage = λ told. record {
+      first = λ place e. absurd (not_ok (faults.Damaged place) e);
+      broken = λ place e. absurd (not_ok (faults.Damaged place) e);
+      damaged = λ place damage. absurd ((c.failed.damage told).damaged place damage).0;
+    };
+    undamaged = λ s told stands place e. not_ok (faults.Damaged place) e;
+    unread = λ told none place e. not_ok (faults.Damaged place) e;
+    still = λ told place e. absurd (not_ok (faults.Damaged place) e);
+    unwritten = λ told need gap e. absurd (not_ok (faults.Full need gap) e);
+    only = tt;
+    cause = λ e. absurd (not_ok faults.Disk e);
+  };
+  throughout = record {
+    images = c.throughout.images;
+    between = c.throughout.between;
+    costs = c.throughout.costs;
+  };
 }
   where
     not_ok : (fault : StoreFault) → ◌≡◌ {A = Result X StoreFault} (Ok y) (Err fault) → ⊥
@@ -206,35 +269,41 @@ some_is x y e = cc
 pub changes_fault : {T X : Type 0} (tells : Type 0) (work : Work) (turns : Turns) (step : State → State) (refuses refuses' : StoreFault → Type 0) (bytes : ℕ) (joins : List Tables) (a b : DiskState) (store later last : Store) (fault other : StoreFault)
     → other ≡ fault → ((e : StoreFault) → refuses e → refuses' e) → Changes {T = T} tells work turns step refuses bytes joins a b store later (Err fault) → Changes {T = X} tells work turns step refuses' bytes joins a b store last (Err other)
 changes_fault {T} {X} tells work turns step refuses refuses' bytes joins a b store later last fault other is may c = record {
-  agrees = tt;
-  sound = tt;
-  knows = λ s knows. tt;
-  levels = tt;
-  works = λ held told has. tt;
-  full = λ held need gap told has e. c.full held need gap told has (carried (faults.Full need gap) e);
-  images = c.images;
-  stands = λ s told stands. tt;
-  between = c.between;
-  speaks = λ s told speaks. tt;
-  becomes = λ o told opened. tt;
-  lacks = λ o need gap told opened e. c.lacks o need gap told opened (carried (faults.Full need gap) e);
-  narrow = λ need gap told e. c.narrow need gap told (carried (faults.Full need gap) e);
-  damage = λ told.
-      let d = c.damage told in record {
-        first = λ place e. d.first place (carried (faults.Damaged place) e);
-        broken = λ place e. d.broken place (carried (faults.Damaged place) e);
-        damaged = λ place damage. (
-          tt,
-          subst (λ (f : StoreFault). (f ≡ faults.Damaged place) ⊎ (IsOutside f ⊎ refuses' f)) (sym is) (damaged_as refuses refuses' may place fault (d.damaged place damage).1),
-        );
-      };
-  undamaged = λ s told stands place e. c.undamaged s told stands place (carried (faults.Damaged place) e);
-  unread = λ told none place e. c.unread told none place (carried (faults.Damaged place) e);
-  still = λ told place e. c.still told place (carried (faults.Damaged place) e);
-  unwritten = λ told need gap e. c.unwritten told need gap (carried (faults.Full need gap) e);
-  only = subst (IsCause refuses') (sym is) (cause_as refuses refuses' may fault c.only);
-  cause = λ e. c.cause (carried faults.Disk e);
-  costs = c.costs;
+  done = record {
+    agrees = tt;
+    sound = tt;
+    knows = λ s knows. tt;
+    levels = tt;
+    works = λ held told has. tt;
+    stands = λ s told stands. tt;
+    speaks = λ s told speaks. tt;
+    becomes = λ o told opened. tt;
+  };
+  failed = record {
+    full = λ held need gap told has e. c.failed.full held need gap told has (carried (faults.Full need gap) e);
+    lacks = λ o need gap told opened e. c.failed.lacks o need gap told opened (carried (faults.Full need gap) e);
+    narrow = λ need gap told e. c.failed.narrow need gap told (carried (faults.Full need gap) e);
+    damage = λ told.
+        let d = c.failed.damage told in record {
+          first = λ place e. d.first place (carried (faults.Damaged place) e);
+          broken = λ place e. d.broken place (carried (faults.Damaged place) e);
+          damaged = λ place damage. (
+            tt,
+            subst (λ (f : StoreFault). (f ≡ faults.Damaged place) ⊎ (IsOutside f ⊎ refuses' f)) (sym is) (damaged_as refuses refuses' may place fault (d.damaged place damage).1),
+          );
+        };
+    undamaged = λ s told stands place e. c.failed.undamaged s told stands place (carried (faults.Damaged place) e);
+    unread = λ told none place e. c.failed.unread told none place (carried (faults.Damaged place) e);
+    still = λ told place e. c.failed.still told place (carried (faults.Damaged place) e);
+    unwritten = λ told need gap e. c.failed.unwritten told need gap (carried (faults.Full need gap) e);
+    only = subst (IsCause refuses') (sym is) (cause_as refuses refuses' may fault c.failed.only);
+    cause = λ e. c.failed.cause (carried faults.Disk e);
+  };
+  throughout = record {
+    images = c.throughout.images;
+    between = c.throughout.between;
+    costs = c.throughout.costs;
+  };
 }
   where
     carried : (f : StoreFault) → ◌≡◌ {A = Result X StoreFault} (Err other) (Err f) → ◌≡◌ {A = Result T StoreFault} (Err fault) (Err f)
@@ -286,32 +355,38 @@ pub changes_failed : {T : Type 0} (tells : Type 0) (work then : Work) (turns nex
     → Changes {T = Unit {0}} tells work turns (λ s. s) NoRefusal m joins a b store middle (Err fault)
     → Changes {T = T} tells (λ limit held. work limit held >>= then limit) (through turns next) step refuses (m + n) joins a b store middle (Err fault)
 changes_failed {T} tells work then turns next step refuses m n joins a b store middle fault c = record {
-  agrees = tt;
-  sound = tt;
-  knows = λ s knows. tt;
-  levels = tt;
-  works = λ held told has. tt;
-  full = λ held need gap told has e. chain_err work then a.limit held (record { need = need; gap = gap }) (c.full held need gap told has (carried (faults.Full need gap) e));
-  images = λ s stands. leaves_as a b (StandsForEither s s) (StandsForEither s (step s)) (c.images s stands) (λ image either. ⊎_elim (λ here. inl here) (λ here. inl here) either);
-  stands = λ s told stands. tt;
-  between = λ s speaks. leaves_as a b (MaySpeakOfEither s s) (MaySpeakOfEither s (step s)) (c.between s speaks) (λ image either. ⊎_elim (λ here. inl here) (λ here. inl here) either);
-  speaks = λ s told speaks. tt;
-  becomes = λ o told opened. tt;
-  lacks = λ o need gap told opened e. (Err (record { need = need; gap = gap }), c.lacks o need gap told opened (carried (faults.Full need gap) e), refl);
-  narrow = λ need gap told e. c.narrow need gap told (carried (faults.Full need gap) e);
-  damage = λ told.
-      let d = c.damage told in record {
-        first = λ place e. d.first place (carried (faults.Damaged place) e);
-        broken = λ place e. d.broken place (carried (faults.Damaged place) e);
-        damaged = λ place damage. (tt, damaged_as NoRefusal refuses (λ e none. absurd none) place fault (d.damaged place damage).1);
-      };
-  undamaged = λ s told stands place e. c.undamaged s told stands place (carried (faults.Damaged place) e);
-  unread = λ told none place e. c.unread told none place (carried (faults.Damaged place) e);
-  still = λ told place e. c.still told place (carried (faults.Damaged place) e);
-  unwritten = λ told need gap e. c.unwritten told need gap (carried (faults.Full need gap) e);
-  only = cause_as NoRefusal refuses (λ e none. absurd none) fault c.only;
-  cause = λ e. c.cause (carried faults.Disk e);
-  costs = costs_more (m + sum_by data_size joins) (m + n + sum_by data_size joins) a b (omega arith) c.costs;
+  done = record {
+    agrees = tt;
+    sound = tt;
+    knows = λ s knows. tt;
+    levels = tt;
+    works = λ held told has. tt;
+    stands = λ s told stands. tt;
+    speaks = λ s told speaks. tt;
+    becomes = λ o told opened. tt;
+  };
+  failed = record {
+    full = λ held need gap told has e. chain_err work then a.limit held (record { need = need; gap = gap }) (c.failed.full held need gap told has (carried (faults.Full need gap) e));
+    lacks = λ o need gap told opened e. (Err (record { need = need; gap = gap }), c.failed.lacks o need gap told opened (carried (faults.Full need gap) e), refl);
+    narrow = λ need gap told e. c.failed.narrow need gap told (carried (faults.Full need gap) e);
+    damage = λ told.
+        let d = c.failed.damage told in record {
+          first = λ place e. d.first place (carried (faults.Damaged place) e);
+          broken = λ place e. d.broken place (carried (faults.Damaged place) e);
+          damaged = λ place damage. (tt, damaged_as NoRefusal refuses (λ e none. absurd none) place fault (d.damaged place damage).1);
+        };
+    undamaged = λ s told stands place e. c.failed.undamaged s told stands place (carried (faults.Damaged place) e);
+    unread = λ told none place e. c.failed.unread told none place (carried (faults.Damaged place) e);
+    still = λ told place e. c.failed.still told place (carried (faults.Damaged place) e);
+    unwritten = λ told need gap e. c.failed.unwritten told need gap (carried (faults.Full need gap) e);
+    only = cause_as NoRefusal refuses (λ e none. absurd none) fault c.failed.only;
+    cause = λ e. c.failed.cause (carried faults.Disk e);
+  };
+  throughout = record {
+    images = λ s stands. leaves_as a b (StandsForEither s s) (StandsForEither s (step s)) (c.throughout.images s stands) (λ image either. ⊎_elim (λ here. inl here) (λ here. inl here) either);
+    between = λ s speaks. leaves_as a b (MaySpeakOfEither s s) (MaySpeakOfEither s (step s)) (c.throughout.between s speaks) (λ image either. ⊎_elim (λ here. inl here) (λ here. inl here) either);
+    costs = costs_more (m + sum_by data_size joins) (m + n + sum_by data_size joins) a b (omega arith) c.throughout.costs;
+  };
 }
   where
     carried : (other : StoreFault) → ◌≡◌ {A = Result T StoreFault} (Err fault) (Err other) → ◌≡◌ {A = Result (Unit {0}) StoreFault} (Err fault) (Err other)
@@ -328,84 +403,96 @@ module _ (tells : Type 0) (work then : Work) (turns next : Turns) (step : State 
 
   -- the second finds its place
   no_want : {T : Type 0} (result : Result T StoreFault) → Changes tells then next step refuses n [] b c middle later result → (need gap : ℕ) → tells → result ≡ Err (faults.Full need gap) → ⊥
-  no_want result two need gap told e = let holds = one.agrees.content told in finds b.limit holds.opened (record { need = need; gap = gap }) (two.lacks holds.opened need gap told holds.is e)
+  no_want result two need gap told e = let holds = one.done.agrees.content told in finds b.limit holds.opened (record { need = need; gap = gap }) (two.failed.lacks holds.opened need gap told holds.is e)
 
   images_then : {T : Type 0} (result : Result T StoreFault) → Changes tells then next step refuses n [] b c middle later result → (s : State) → (tells → StandsFor s a.content) → LeavesOnly (StandsForEither s (step s)) a c
   images_then result two s stands =
       leaves_then a b c (StandsForEither s (step s))
-      (leaves_as a b (StandsForEither s s) (StandsForEither s (step s)) (one.images s stands) (λ image either. ⊎_elim (λ here. inl here) (λ here. inl here) either))
-      (two.images s (λ told. one.stands s told (stands told)))
+      (leaves_as a b (StandsForEither s s) (StandsForEither s (step s)) (one.throughout.images s stands) (λ image either. ⊎_elim (λ here. inl here) (λ here. inl here) either))
+      (two.throughout.images s (λ told. one.done.stands s told (stands told)))
 
   between_then : {T : Type 0} (result : Result T StoreFault) → Changes tells then next step refuses n [] b c middle later result → (s : State) → (tells → MaySpeakOf s a.content) → LeavesOnly (MaySpeakOfEither s (step s)) a c
   between_then result two s speaks =
       leaves_then a b c (MaySpeakOfEither s (step s))
-      (leaves_as a b (MaySpeakOfEither s s) (MaySpeakOfEither s (step s)) (one.between s speaks) (λ image either. ⊎_elim (λ here. inl here) (λ here. inl here) either))
-      (two.between s (λ told. one.speaks s told (speaks told)))
+      (leaves_as a b (MaySpeakOfEither s s) (MaySpeakOfEither s (step s)) (one.throughout.between s speaks) (λ image either. ⊎_elim (λ here. inl here) (λ here. inl here) either))
+      (two.throughout.between s (λ told. one.done.speaks s told (speaks told)))
 
   finds_then : {T : Type 0} (result : Result T StoreFault) → Changes tells then next step refuses n [] b c middle later result → tells → FindsFirstDamage refuses a.content joins result
   finds_then result two told = record {
-    first = λ place e. absurd (two.unread told refl place e);
-    broken = λ place e. absurd (two.unread told refl place e);
-    damaged = λ place damage. absurd ((one.damage told).damaged place damage).0;
+    first = λ place e. absurd (two.failed.unread told refl place e);
+    broken = λ place e. absurd (two.failed.unread told refl place e);
+    damaged = λ place damage. absurd ((one.failed.damage told).damaged place damage).0;
   }
 
   costs_both : {T : Type 0} (result : Result T StoreFault) → Changes tells then next step refuses n [] b c middle later result → Costs (m + n + sum_by data_size joins) a c
   costs_both result two =
       costs_more (m + sum_by data_size joins + (n + sum_by data_size [])) (m + n + sum_by data_size joins) a c (omega arith)
-      (costs_then (m + sum_by data_size joins) (n + sum_by data_size []) a b c one.costs two.costs)
+      (costs_then (m + sum_by data_size joins) (n + sum_by data_size []) a b c one.throughout.costs two.throughout.costs)
 
   pub changes_then : {T : Type 0} (result : Result T StoreFault) → OnOk result (later.slot ≡ middle.slot) → Changes tells then next step refuses n [] b c middle later result → Changes tells both (through turns next) step refuses (m + n) joins a c store later result
   changes_then (Ok x) slot two = record {
-    agrees = two.agrees;
-    sound = two.sound ∙ one.sound;
-    knows = λ s knows. two.knows s (one.knows s knows);
-    levels = λ same. stay_then tells a b c store middle later (one.levels (sym slot ∙ same)) (two.levels slot);
-    works = λ held told has.
-        let w = one.works held told has in
-        let v = two.works w.0 told w.2 in
-        (v.0, chain_ok work then a.limit held w.0 w.1 ∙ ap (λ (limit : ℕ). then limit w.0) (sym one.costs.limit) ∙ v.1, v.2);
-    full = λ held need gap told has e. let w = one.works held told has in chain_ok work then a.limit held w.0 w.1 ∙ ap (λ (limit : ℕ). then limit w.0) (sym one.costs.limit) ∙ two.full w.0 need gap told w.2 e;
-    images = images_then (Ok x) two;
-    stands = λ s told stands. two.stands s told (one.stands s told stands);
-    between = between_then (Ok x) two;
-    speaks = λ s told speaks. two.speaks s told (one.speaks s told speaks);
-    becomes = λ o told opened.
-        let w = one.becomes o told opened in
-        let v = two.becomes w.0 told w.2 in
-        (v.0, (Ok w.0, w.1, subst (λ (limit : ℕ). next limit w.0 (Ok v.0)) one.costs.limit v.1), v.2, v.3);
-    lacks = λ o need gap told opened e. absurd (no_want (Ok x) two need gap told e);
-    narrow = λ need gap told e. absurd (no_want (Ok x) two need gap told e);
-    damage = finds_then (Ok x) two;
-    undamaged = λ s told stands place e. two.unread told refl place e;
-    unread = λ told none place e. two.unread told refl place e;
-    still = λ told place e. absurd (two.unread told refl place e);
-    unwritten = λ told need gap e. absurd (no_want (Ok x) two need gap told e);
-    only = tt;
-    cause = λ e. rose_later a.faults b.faults c.faults one.costs.faults (two.cause e);
-    costs = costs_both (Ok x) two;
+    done = record {
+      agrees = two.done.agrees;
+      sound = two.done.sound ∙ one.done.sound;
+      knows = λ s knows. two.done.knows s (one.done.knows s knows);
+      levels = λ same. stay_then tells a b c store middle later (one.done.levels (sym slot ∙ same)) (two.done.levels slot);
+      works = λ held told has.
+          let w = one.done.works held told has in
+          let v = two.done.works w.0 told w.2 in
+          (v.0, chain_ok work then a.limit held w.0 w.1 ∙ ap (λ (limit : ℕ). then limit w.0) (sym one.throughout.costs.limit) ∙ v.1, v.2);
+      stands = λ s told stands. two.done.stands s told (one.done.stands s told stands);
+      speaks = λ s told speaks. two.done.speaks s told (one.done.speaks s told speaks);
+      becomes = λ o told opened.
+          let w = one.done.becomes o told opened in
+          let v = two.done.becomes w.0 told w.2 in
+          (v.0, (Ok w.0, w.1, subst (λ (limit : ℕ). next limit w.0 (Ok v.0)) one.throughout.costs.limit v.1), v.2, v.3);
+    };
+    failed = record {
+      full = λ held need gap told has e. let w = one.done.works held told has in chain_ok work then a.limit held w.0 w.1 ∙ ap (λ (limit : ℕ). then limit w.0) (sym one.throughout.costs.limit) ∙ two.failed.full w.0 need gap told w.2 e;
+      lacks = λ o need gap told opened e. absurd (no_want (Ok x) two need gap told e);
+      narrow = λ need gap told e. absurd (no_want (Ok x) two need gap told e);
+      damage = finds_then (Ok x) two;
+      undamaged = λ s told stands place e. two.failed.unread told refl place e;
+      unread = λ told none place e. two.failed.unread told refl place e;
+      still = λ told place e. absurd (two.failed.unread told refl place e);
+      unwritten = λ told need gap e. absurd (no_want (Ok x) two need gap told e);
+      only = tt;
+      cause = λ e. rose_later a.faults b.faults c.faults one.throughout.costs.faults (two.failed.cause e);
+    };
+    throughout = record {
+      images = images_then (Ok x) two;
+      between = between_then (Ok x) two;
+      costs = costs_both (Ok x) two;
+    };
   }
   changes_then (Err fault) slot two = record {
-    agrees = tt;
-    sound = tt;
-    knows = λ s knows. tt;
-    levels = tt;
-    works = λ held told has. tt;
-    full = λ held need gap told has e. let w = one.works held told has in chain_ok work then a.limit held w.0 w.1 ∙ ap (λ (limit : ℕ). then limit w.0) (sym one.costs.limit) ∙ two.full w.0 need gap told w.2 e;
-    images = images_then (Err fault) two;
-    stands = λ s told stands. tt;
-    between = between_then (Err fault) two;
-    speaks = λ s told speaks. tt;
-    becomes = λ o told opened. tt;
-    lacks = λ o need gap told opened e. absurd (no_want (Err fault) two need gap told e);
-    narrow = λ need gap told e. absurd (no_want (Err fault) two need gap told e);
-    damage = finds_then (Err fault) two;
-    undamaged = λ s told stands place e. two.unread told refl place e;
-    unread = λ told none place e. two.unread told refl place e;
-    still = λ told place e. absurd (two.unread told refl place e);
-    unwritten = λ told need gap e. absurd (no_want (Err fault) two need gap told e);
-    only = two.only;
-    cause = λ e. rose_later a.faults b.faults c.faults one.costs.faults (two.cause e);
-    costs = costs_both (Err fault) two;
+    done = record {
+      agrees = tt;
+      sound = tt;
+      knows = λ s knows. tt;
+      levels = tt;
+      works = λ held told has. tt;
+      stands = λ s told stands. tt;
+      speaks = λ s told speaks. tt;
+      becomes = λ o told opened. tt;
+    };
+    failed = record {
+      full = λ held need gap told has e. let w = one.done.works held told has in chain_ok work then a.limit held w.0 w.1 ∙ ap (λ (limit : ℕ). then limit w.0) (sym one.throughout.costs.limit) ∙ two.failed.full w.0 need gap told w.2 e;
+      lacks = λ o need gap told opened e. absurd (no_want (Err fault) two need gap told e);
+      narrow = λ need gap told e. absurd (no_want (Err fault) two need gap told e);
+      damage = finds_then (Err fault) two;
+      undamaged = λ s told stands place e. two.failed.unread told refl place e;
+      unread = λ told none place e. two.failed.unread told refl place e;
+      still = λ told place e. absurd (two.failed.unread told refl place e);
+      unwritten = λ told need gap e. absurd (no_want (Err fault) two need gap told e);
+      only = two.failed.only;
+      cause = λ e. rose_later a.faults b.faults c.faults one.throughout.costs.faults (two.failed.cause e);
+    };
+    throughout = record {
+      images = images_then (Err fault) two;
+      between = between_then (Err fault) two;
+      costs = costs_both (Err fault) two;
+    };
   }
 
 -- ---- an entry, behind a switch of the root where there is no room

@@ -152,27 +152,33 @@ module _ (tells : Type 0) (a : DiskState) (lawful : IsLawful tells a) (store : S
       pub enters_failed : {T : Type 0} (later : Store) (turn : State → State) → IsStepOf entry turn store → (fault : StoreFault) → fault ≡ StoreDisk → Rose a.faults b.faults → Costs 0 a b
           → Enters {T = T} tells entry turn a b store later (Err fault)
       enters_failed {T} later turn turns fault is rose costs = record {
-        agrees = tt;
-        sound = tt;
-        knows = λ s k. tt;
-        levels = tt;
-        works = λ held told has. tt;
-        full = λ held need gap told has failed. absurd (not_full need gap failed);
-        images = λ s stands. either s (turn s) stands (λ told. turns s (knows_of tells a store agrees s told (stands told)));
-        stands = λ s told stands. tt;
-        between = λ s speaks. either_speaks s (turn s) speaks (λ told. turns s (knows_spoken tells a store agrees s told (speaks told)));
-        speaks = λ s told speaks. tt;
-        becomes = λ o told opened. tt;
-        lacks = λ o need gap told opened failed. absurd (not_full need gap failed);
-        narrow = λ need gap told failed. absurd (not_full need gap failed);
-        damage = λ told. finds_outside NoRefusal a.content [] fault (inr is) (not_damaged fault (inr is));
-        undamaged = λ s told stands place failed. not_damaged fault (inr is) place failed;
-        unread = λ told none place failed. not_damaged fault (inr is) place failed;
-        still = λ told place failed. absurd (not_damaged fault (inr is) place failed);
-        unwritten = λ told need gap failed. absurd (not_full need gap failed);
-        only = inl (inr is);
-        cause = λ failed. rose;
-        costs = costs;
+        done = record {
+          agrees = tt;
+          sound = tt;
+          knows = λ s k. tt;
+          levels = tt;
+          works = λ held told has. tt;
+          stands = λ s told stands. tt;
+          speaks = λ s told speaks. tt;
+          becomes = λ o told opened. tt;
+        };
+        failed = record {
+          full = λ held need gap told has failed. absurd (not_full need gap failed);
+          lacks = λ o need gap told opened failed. absurd (not_full need gap failed);
+          narrow = λ need gap told failed. absurd (not_full need gap failed);
+          damage = λ told. finds_outside NoRefusal a.content [] fault (inr is) (not_damaged fault (inr is));
+          undamaged = λ s told stands place failed. not_damaged fault (inr is) place failed;
+          unread = λ told none place failed. not_damaged fault (inr is) place failed;
+          still = λ told place failed. absurd (not_damaged fault (inr is) place failed);
+          unwritten = λ told need gap failed. absurd (not_full need gap failed);
+          only = inl (inr is);
+          cause = λ failed. rose;
+        };
+        throughout = record {
+          images = λ s stands. either s (turn s) stands (λ told. turns s (knows_of tells a store agrees s told (stands told)));
+          between = λ s speaks. either_speaks s (turn s) speaks (λ told. turns s (knows_spoken tells a store agrees s told (speaks told)));
+          costs = costs;
+        };
       }
         where
           not_full : (need gap : ℕ) → ◌≡◌ {A = Result T StoreFault} (Err fault) (Err (StoreFull need gap)) → ⊥
@@ -289,29 +295,35 @@ module _ (tells : Type 0) (a : DiskState) (lawful : IsLawful tells a) (store : S
           -- the entry was entered
           pub enters_ok : {T : Type 0} (turn : State → State) → IsStepOf entry turn store → (x : T) → Costs 0 a b → Enters tells entry turn a b store later (Ok x)
           enters_ok turn turns x costs = record {
-            agrees = agrees_after;
-            sound = sound_is;
-            knows = λ s k. subst (Knows later) (turns s k) (knows s k).0;
-            levels = λ here. record { tables = levels_are; bytes = λ told. unmap (IsSame a.content b.content) extent_of (levels_of store) (same_levels told) };
-            works = λ held told has. (entered held entry, refl, has_more told held has);
-            full = λ held need gap told has failed. absurd (ok_fails x (StoreFull need gap) failed);
-            images = λ s stands. either s (turn s) stands (λ told. turns s (knows_of tells a store agrees s told (stands told)));
-            stands = λ s told stands. stands_after s (turn s) told stands (turns s (knows_of tells a store agrees s told stands));
-            between = λ s speaks. either_speaks s (turn s) speaks (λ told. turns s (knows_spoken tells a store agrees s told (speaks told)));
-            speaks = λ s told was.
-                subst (λ (u : State). MaySpeakOf u b.content) (turns s (knows_spoken tells a store agrees s told was))
-                (record { opened = with_entry was.opened entry; is = opened_more told was.opened was.is; may = may_enter s was.opened entry was.may });
-            becomes = λ o told is. (with_entry o entry, refl, opened_more told o is, keeps_more told o is);
-            lacks = λ o need gap told is failed. absurd (ok_fails x (StoreFull need gap) failed);
-            narrow = λ need gap told failed. absurd (ok_fails x (StoreFull need gap) failed);
-            damage = λ told. finds_none NoRefusal a.content [] (Ok x) refl (λ place failed. ok_fails x (StoreDamaged place) failed);
-            undamaged = λ s told stands place failed. ok_fails x (StoreDamaged place) failed;
-            unread = λ told none place failed. ok_fails x (StoreDamaged place) failed;
-            still = λ told place failed. absurd (ok_fails x (StoreDamaged place) failed);
-            unwritten = λ told need gap failed. absurd (ok_fails x (StoreFull need gap) failed);
-            only = tt;
-            cause = λ failed. absurd (ok_fails x StoreDisk failed);
-            costs = costs;
+            done = record {
+              agrees = agrees_after;
+              sound = sound_is;
+              knows = λ s k. subst (Knows later) (turns s k) (knows s k).0;
+              levels = λ here. record { tables = levels_are; bytes = λ told. unmap (IsSame a.content b.content) extent_of (levels_of store) (same_levels told) };
+              works = λ held told has. (entered held entry, refl, has_more told held has);
+              stands = λ s told stands. stands_after s (turn s) told stands (turns s (knows_of tells a store agrees s told stands));
+              speaks = λ s told was.
+                  subst (λ (u : State). MaySpeakOf u b.content) (turns s (knows_spoken tells a store agrees s told was))
+                  (record { opened = with_entry was.opened entry; is = opened_more told was.opened was.is; may = may_enter s was.opened entry was.may });
+              becomes = λ o told is. (with_entry o entry, refl, opened_more told o is, keeps_more told o is);
+            };
+            failed = record {
+              full = λ held need gap told has failed. absurd (ok_fails x (StoreFull need gap) failed);
+              lacks = λ o need gap told is failed. absurd (ok_fails x (StoreFull need gap) failed);
+              narrow = λ need gap told failed. absurd (ok_fails x (StoreFull need gap) failed);
+              damage = λ told. finds_none NoRefusal a.content [] (Ok x) refl (λ place failed. ok_fails x (StoreDamaged place) failed);
+              undamaged = λ s told stands place failed. ok_fails x (StoreDamaged place) failed;
+              unread = λ told none place failed. ok_fails x (StoreDamaged place) failed;
+              still = λ told place failed. absurd (ok_fails x (StoreDamaged place) failed);
+              unwritten = λ told need gap failed. absurd (ok_fails x (StoreFull need gap) failed);
+              only = tt;
+              cause = λ failed. absurd (ok_fails x StoreDisk failed);
+            };
+            throughout = record {
+              images = λ s stands. either s (turn s) stands (λ told. turns s (knows_of tells a store agrees s told (stands told)));
+              between = λ s speaks. either_speaks s (turn s) speaks (λ told. turns s (knows_spoken tells a store agrees s told (speaks told)));
+              costs = costs;
+            };
           }
 
 -- ---- which entries the documents allow

@@ -145,29 +145,35 @@ module _ (tells : Type 0) (a : DiskState) (lawful : IsLawful tells a) (store : S
 
   changes_join : (image : List ℕ) (u : Unit {0}) → ObeysOver tells (steps n) image [] a a store later (Ok u)
   changes_join image u = record {
-    agrees = agrees_join;
-    sound = refl;
-    knows = λ s knows. knows;
-    levels = λ here. stay_here tells a store later refl;
-    works = works_join;
-    full = λ held need gap told has e. absurd (not_ok (faults.Full need gap) e);
-    images = λ s stands. leaves_start tells a (StandsForEither s s) lawful (λ image here. inl (images_stand tells a s lawful agrees.settled stands image here));
-    stands = λ s told stands. stands;
-    between = λ s speaks. leaves_start tells a (MaySpeakOfEither s s) lawful (λ image here. inl (images_have tells a (MaySpeakOf s) lawful agrees.settled speaks image here));
-    speaks = λ s told speaks. speaks;
-    becomes = λ o told is.
-        let keeps = kept store a.content (agrees.content told) o is in
-        (o, inl (ap (ends_join n store.job) (sym keeps.levels) ∙ ends_as tells a.content store merging join n false goes_on, refl), is, keeps_join o keeps);
-    lacks = λ o need gap told is e. absurd (not_ok (faults.Full need gap) e);
-    narrow = λ need gap told e. absurd (not_ok (faults.Full need gap) e);
-    damage = λ told. finds_none NoRefusal a.content [] (Ok u) refl (λ place e. not_ok (faults.Damaged place) e);
-    undamaged = λ s told stands place e. not_ok (faults.Damaged place) e;
-    unread = λ told none place e. not_ok (faults.Damaged place) e;
-    still = λ told place e. absurd (not_ok (faults.Damaged place) e);
-    unwritten = λ told need gap e. absurd (not_ok (faults.Full need gap) e);
-    only = tt;
-    cause = λ e. absurd (not_ok faults.Disk e);
-    costs = costs_none 1 a;
+    done = record {
+      agrees = agrees_join;
+      sound = refl;
+      knows = λ s knows. knows;
+      levels = λ here. stay_here tells a store later refl;
+      works = works_join;
+      stands = λ s told stands. stands;
+      speaks = λ s told speaks. speaks;
+      becomes = λ o told is.
+          let keeps = kept store a.content (agrees.content told) o is in
+          (o, inl (ap (ends_join n store.job) (sym keeps.levels) ∙ ends_as tells a.content store merging join n false goes_on, refl), is, keeps_join o keeps);
+    };
+    failed = record {
+      full = λ held need gap told has e. absurd (not_ok (faults.Full need gap) e);
+      lacks = λ o need gap told is e. absurd (not_ok (faults.Full need gap) e);
+      narrow = λ need gap told e. absurd (not_ok (faults.Full need gap) e);
+      damage = λ told. finds_none NoRefusal a.content [] (Ok u) refl (λ place e. not_ok (faults.Damaged place) e);
+      undamaged = λ s told stands place e. not_ok (faults.Damaged place) e;
+      unread = λ told none place e. not_ok (faults.Damaged place) e;
+      still = λ told place e. absurd (not_ok (faults.Damaged place) e);
+      unwritten = λ told need gap e. absurd (not_ok (faults.Full need gap) e);
+      only = tt;
+      cause = λ e. absurd (not_ok faults.Disk e);
+    };
+    throughout = record {
+      images = λ s stands. leaves_start tells a (StandsForEither s s) lawful (λ image here. inl (images_stand tells a s lawful agrees.settled stands image here));
+      between = λ s speaks. leaves_start tells a (MaySpeakOfEither s s) lawful (λ image here. inl (images_have tells a (MaySpeakOf s) lawful agrees.settled speaks image here));
+      costs = costs_none 1 a;
+    };
   }
     where
       not_ok : (fault : StoreFault) → ◌≡◌ {A = Result (Unit {0}) StoreFault} (Ok u) (Err fault) → ⊥

@@ -97,70 +97,82 @@ module _ (tells : Type 0) (a b : DiskState) (lawful_a : IsLawful tells a) (lawfu
   pub changes_put : (u : Result (Unit {0}) StoreFault) → OnOk u (later.job ≡ now.job) → Puts tells levels a b store later u
       → Changes tells work turns (λ s. s) NoRefusal 1 [] a b store later u
   changes_put (Ok x) job puts = record {
-    agrees = puts.agrees;
-    sound = puts.sound;
-    knows = puts.knows;
-    levels = λ same. absurd (not_other store.slot (sym same ∙ puts.slot));
-    works = λ held told has.
-        let to = switches held told has in
-        let w = puts.works held to.job told has.is to.given in (
-          w.0,
-          to.is ∙ w.1,
-          record {
-            is = w.2;
-            job = subst (λ (m : Option Merging). IsJobIn m w.0.job) (sym job) (to.goes w.0 w.1);
-            well = well held w.0 (held_is_spaced held a.content has.is) has.well (to.is ∙ w.1);
-          },
-        );
-    full = λ held need gap told has e. absurd (not_ok (faults.Full need gap) e);
-    images = images_put (Ok x) puts;
-    stands = λ s told was. ⊎_elim (λ here. here) (λ here. here) (leaves_now tells a b (StandsForEither s s) lawful_b (images_put (Ok x) puts s (λ t. was)) b.content (lawful_b.present told));
-    between = between_put (Ok x) puts;
-    speaks = λ s told was. leaves_now tells a b (MaySpeakOf s) lawful_b (puts.between s (λ t. was)) b.content (lawful_b.present told);
-    becomes = λ o told is.
-        let given = may.given o told is in
-        let w = puts.becomes o given.0 told is given.1 given.2 in (
-          w.0,
-          becomes_by told o is (Ok w.0) (rewritten told o is (Ok w.0) w.1),
-          w.2,
-          w.3,
-        );
-    lacks = λ o need gap told is e. absurd (not_ok (faults.Full need gap) e);
-    narrow = λ need gap told e. absurd (not_ok (faults.Full need gap) e);
-    damage = λ told. finds_none NoRefusal a.content [] (Ok x) refl (λ place e. not_ok (faults.Damaged place) e);
-    undamaged = λ s told stands place e. not_ok (faults.Damaged place) e;
-    unread = λ told none place e. not_ok (faults.Damaged place) e;
-    still = λ told place e. absurd (not_ok (faults.Damaged place) e);
-    unwritten = λ told need gap e. absurd (not_ok (faults.Full need gap) e);
-    only = tt;
-    cause = λ e. absurd (not_ok faults.Disk e);
-    costs = puts.costs;
+    done = record {
+      agrees = puts.agrees;
+      sound = puts.sound;
+      knows = puts.knows;
+      levels = λ same. absurd (not_other store.slot (sym same ∙ puts.slot));
+      works = λ held told has.
+          let to = switches held told has in
+          let w = puts.works held to.job told has.is to.given in (
+            w.0,
+            to.is ∙ w.1,
+            record {
+              is = w.2;
+              job = subst (λ (m : Option Merging). IsJobIn m w.0.job) (sym job) (to.goes w.0 w.1);
+              well = well held w.0 (held_is_spaced held a.content has.is) has.well (to.is ∙ w.1);
+            },
+          );
+      stands = λ s told was. ⊎_elim (λ here. here) (λ here. here) (leaves_now tells a b (StandsForEither s s) lawful_b (images_put (Ok x) puts s (λ t. was)) b.content (lawful_b.present told));
+      speaks = λ s told was. leaves_now tells a b (MaySpeakOf s) lawful_b (puts.between s (λ t. was)) b.content (lawful_b.present told);
+      becomes = λ o told is.
+          let given = may.given o told is in
+          let w = puts.becomes o given.0 told is given.1 given.2 in (
+            w.0,
+            becomes_by told o is (Ok w.0) (rewritten told o is (Ok w.0) w.1),
+            w.2,
+            w.3,
+          );
+    };
+    failed = record {
+      full = λ held need gap told has e. absurd (not_ok (faults.Full need gap) e);
+      lacks = λ o need gap told is e. absurd (not_ok (faults.Full need gap) e);
+      narrow = λ need gap told e. absurd (not_ok (faults.Full need gap) e);
+      damage = λ told. finds_none NoRefusal a.content [] (Ok x) refl (λ place e. not_ok (faults.Damaged place) e);
+      undamaged = λ s told stands place e. not_ok (faults.Damaged place) e;
+      unread = λ told none place e. not_ok (faults.Damaged place) e;
+      still = λ told place e. absurd (not_ok (faults.Damaged place) e);
+      unwritten = λ told need gap e. absurd (not_ok (faults.Full need gap) e);
+      only = tt;
+      cause = λ e. absurd (not_ok faults.Disk e);
+    };
+    throughout = record {
+      images = images_put (Ok x) puts;
+      between = between_put (Ok x) puts;
+      costs = puts.costs;
+    };
   }
     where
       not_ok : (fault : StoreFault) → ◌≡◌ {A = Result (Unit {0}) StoreFault} (Ok x) (Err fault) → ⊥
       not_ok fault e = absurd cc
   changes_put (Err fault) job puts = record {
-    agrees = tt;
-    sound = tt;
-    knows = λ s knows. tt;
-    levels = tt;
-    works = λ held told has. tt;
-    full = λ held need gap told has e. let to = switches held told has in to.is ∙ puts.full held to.job need gap told has.is to.given e;
-    images = images_put (Err fault) puts;
-    stands = λ s told was. tt;
-    between = between_put (Err fault) puts;
-    speaks = λ s told was. tt;
-    becomes = λ o told is. tt;
-    lacks = λ o need gap told is e. becomes_by told o is (Err (record { need = need; gap = gap })) (lacks_put (Err fault) puts o need gap told is e);
-    narrow = narrow_put (Err fault) puts;
-    damage = λ told. finds_none NoRefusal a.content [] (Err fault) refl no_damage;
-    undamaged = λ s told stands place e. no_damage place e;
-    unread = λ told none place e. no_damage place e;
-    still = λ told place e. absurd (no_damage place e);
-    unwritten = λ told need gap e. puts.unwritten need gap e;
-    only = ⊎_elim (λ outside. inl outside) (λ full. inr (inr (inl full))) puts.only;
-    cause = puts.cause;
-    costs = puts.costs;
+    done = record {
+      agrees = tt;
+      sound = tt;
+      knows = λ s knows. tt;
+      levels = tt;
+      works = λ held told has. tt;
+      stands = λ s told was. tt;
+      speaks = λ s told was. tt;
+      becomes = λ o told is. tt;
+    };
+    failed = record {
+      full = λ held need gap told has e. let to = switches held told has in to.is ∙ puts.full held to.job need gap told has.is to.given e;
+      lacks = λ o need gap told is e. becomes_by told o is (Err (record { need = need; gap = gap })) (lacks_put (Err fault) puts o need gap told is e);
+      narrow = narrow_put (Err fault) puts;
+      damage = λ told. finds_none NoRefusal a.content [] (Err fault) refl no_damage;
+      undamaged = λ s told stands place e. no_damage place e;
+      unread = λ told none place e. no_damage place e;
+      still = λ told place e. absurd (no_damage place e);
+      unwritten = λ told need gap e. puts.unwritten need gap e;
+      only = ⊎_elim (λ outside. inl outside) (λ full. inr (inr (inl full))) puts.only;
+      cause = puts.cause;
+    };
+    throughout = record {
+      images = images_put (Err fault) puts;
+      between = between_put (Err fault) puts;
+      costs = puts.costs;
+    };
   }
     where
       no_damage : (place : ℕ) → ◌≡◌ {A = Result (Unit {0}) StoreFault} (Err fault) (Err (faults.Damaged place)) → ⊥
@@ -195,39 +207,45 @@ pub changes_read : {T : Type 0} (tells : Type 0) (work : Work) (turns : Turns) (
     → Reads tells (sum_by data_size joins) a b → (tells → (place : ℕ) → IsFirstDamage a.content joins place → ⊥) → Changes tells work turns (λ s. s) NoRefusal bytes [] b c store later result
     → Changes tells work turns (λ s. s) NoRefusal bytes joins a c store later result
 changes_read {T} tells work turns bytes joins a b c lawful_a lawful_b store later result agrees reads whole change = record {
-  agrees = change.agrees;
-  sound = change.sound;
-  knows = change.knows;
-  levels = by_result_levels result change;
-  works = by_result_works result change;
-  full = λ held need gap told has e. ap (λ (limit : ℕ). work limit held) (sym limit) ∙ change.full held need gap told (read_has told held has) e;
-  images = λ s stands.
-      leaves_then a b c (StandsForEither s s) (images_read tells a b lawful_a lawful_b store agrees (sum_by data_size joins) reads s stands)
-      (change.images s (λ told. subst (StandsFor s) (sym (reads.content told)) (stands told)));
-  stands = λ s told stands. change.stands s told (subst (StandsFor s) (sym (reads.content told)) stands);
-  between = λ s speaks.
-      leaves_then a b c (MaySpeakOfEither s s) (between_read tells a b lawful_a lawful_b store agrees (sum_by data_size joins) reads s speaks)
-      (change.between s (λ told. subst (MaySpeakOf s) (sym (reads.content told)) (speaks told)));
-  speaks = λ s told speaks. change.speaks s told (subst (MaySpeakOf s) (sym (reads.content told)) speaks);
-  becomes = by_result_becomes result change;
-  lacks = λ o need gap told is e. subst (λ (l : ℕ). turns l o (Err (record { need = need; gap = gap }))) limit (change.lacks o need gap told (subst (IsOpened o) (sym (reads.content told)) is) e);
-  narrow = λ need gap told e. subst (λ (l : ℕ). IsNarrow l c.content need gap) limit (change.narrow need gap told e);
-  damage = λ told. record {
-    first = λ place e. absurd (change.unread told refl place e);
-    broken = λ place e. absurd (change.unread told refl place e);
-    damaged = λ place damage. absurd (whole told place damage);
+  done = record {
+    agrees = change.done.agrees;
+    sound = change.done.sound;
+    knows = change.done.knows;
+    levels = by_result_levels result change;
+    works = by_result_works result change;
+    stands = λ s told stands. change.done.stands s told (subst (StandsFor s) (sym (reads.content told)) stands);
+    speaks = λ s told speaks. change.done.speaks s told (subst (MaySpeakOf s) (sym (reads.content told)) speaks);
+    becomes = by_result_becomes result change;
   };
-  undamaged = λ s told stands place e. change.unread told refl place e;
-  unread = λ told none place e. change.unread told refl place e;
-  still = λ told place e. absurd (change.unread told refl place e);
-  unwritten = λ told need gap e. change.unwritten told need gap e ∙ reads.content told;
-  only = change.only;
-  cause = λ e. rose_later a.faults b.faults c.faults reads.costs.faults (change.cause e);
-  costs = record {
-    faults = omega (arith, reads.costs.faults, change.costs.faults);
-    taken_up = omega (arith, reads.costs.taken_up, change.costs.taken_up);
-    taken = omega (arith, reads.costs.taken, change.costs.taken);
-    limit = change.costs.limit ∙ limit;
+  failed = record {
+    full = λ held need gap told has e. ap (λ (limit : ℕ). work limit held) (sym limit) ∙ change.failed.full held need gap told (read_has told held has) e;
+    lacks = λ o need gap told is e. subst (λ (l : ℕ). turns l o (Err (record { need = need; gap = gap }))) limit (change.failed.lacks o need gap told (subst (IsOpened o) (sym (reads.content told)) is) e);
+    narrow = λ need gap told e. subst (λ (l : ℕ). IsNarrow l c.content need gap) limit (change.failed.narrow need gap told e);
+    damage = λ told. record {
+      first = λ place e. absurd (change.failed.unread told refl place e);
+      broken = λ place e. absurd (change.failed.unread told refl place e);
+      damaged = λ place damage. absurd (whole told place damage);
+    };
+    undamaged = λ s told stands place e. change.failed.unread told refl place e;
+    unread = λ told none place e. change.failed.unread told refl place e;
+    still = λ told place e. absurd (change.failed.unread told refl place e);
+    unwritten = λ told need gap e. change.failed.unwritten told need gap e ∙ reads.content told;
+    only = change.failed.only;
+    cause = λ e. rose_later a.faults b.faults c.faults reads.costs.faults (change.failed.cause e);
+  };
+  throughout = record {
+    images = λ s stands.
+        leaves_then a b c (StandsForEither s s) (images_read tells a b lawful_a lawful_b store agrees (sum_by data_size joins) reads s stands)
+        (change.throughout.images s (λ told. subst (StandsFor s) (sym (reads.content told)) (stands told)));
+    between = λ s speaks.
+        leaves_then a b c (MaySpeakOfEither s s) (between_read tells a b lawful_a lawful_b store agrees (sum_by data_size joins) reads s speaks)
+        (change.throughout.between s (λ told. subst (MaySpeakOf s) (sym (reads.content told)) (speaks told)));
+    costs = record {
+      faults = omega (arith, reads.costs.faults, change.throughout.costs.faults);
+      taken_up = omega (arith, reads.costs.taken_up, change.throughout.costs.taken_up);
+      taken = omega (arith, reads.costs.taken, change.throughout.costs.taken);
+      limit = change.throughout.costs.limit ∙ limit;
+    };
   };
 }
   where
@@ -239,21 +257,21 @@ changes_read {T} tells work turns bytes joins a b c lawful_a lawful_b store late
 
     by_result_levels : (r : Result T StoreFault) → Changes tells work turns (λ s. s) NoRefusal bytes [] b c store later r → OnOk r (later.slot ≡ store.slot → HasSameLevels tells a c store later)
     by_result_levels (Ok x) change = λ same.
-        let stay = change.levels same in
+        let stay = change.done.levels same in
         record { tables = stay.tables; bytes = λ told. subst (λ (image : List ℕ). All (λ (level : Tables). bytes_at (extent_of level) c.content ≡ bytes_at (extent_of level) image) (levels_of store)) (reads.content told) (stay.bytes told) }
     by_result_levels (Err fault) change = tt
 
     by_result_works : (r : Result T StoreFault) → Changes tells work turns (λ s. s) NoRefusal bytes [] b c store later r
         → (held : Holding) → tells → Has store held a.content → OnOk r ((then : Holding) × (work a.limit held ≡ Ok then) × Has later then c.content)
     by_result_works (Ok x) change held told has =
-        let w = change.works held told (read_has told held has) in
+        let w = change.done.works held told (read_has told held has) in
         (w.0, ap (λ (l : ℕ). work l held) (sym limit) ∙ w.1, w.2)
     by_result_works (Err fault) change held told has = tt
 
     by_result_becomes : (r : Result T StoreFault) → Changes tells work turns (λ s. s) NoRefusal bytes [] b c store later r
         → (o : Opened) → tells → IsOpened o a.content → OnOk r ((p : Opened) × turns a.limit o (Ok p) × IsOpened p c.content × Keeps later p)
     by_result_becomes (Ok x) change o told is =
-        let w = change.becomes o told (subst (IsOpened o) (sym (reads.content told)) is) in
+        let w = change.done.becomes o told (subst (IsOpened o) (sym (reads.content told)) is) in
         (w.0, subst (λ (l : ℕ). turns l o (Ok w.0)) limit w.1, w.2, w.3)
     by_result_becomes (Err fault) change o told is = tt
 
@@ -262,32 +280,38 @@ pub changes_unread : {T X : Type 0} (tells : Type 0) (work : Work) (turns : Turn
     → ((s : State) → tells → StandsFor s a.content → (contents : List Content) × AreSegmentsOn a.content joins contents) → ReadsLevels {T = X} tells joins a b (Err fault)
     → Changes {T = T} tells work turns (λ s. s) NoRefusal bytes joins a b store later (Err fault)
 changes_unread {T} {X} tells work turns bytes joins a b lawful_a lawful_b store later fault agrees segments read = record {
-  agrees = tt;
-  sound = tt;
-  knows = λ s knows. tt;
-  levels = tt;
-  works = λ held told has. tt;
-  full = λ held need gap told has e. absurd (no_full need gap e);
-  images = images_read tells a b lawful_a lawful_b store agrees (sum_by data_size joins) read.reads;
-  stands = λ s told stands. tt;
-  between = between_read tells a b lawful_a lawful_b store agrees (sum_by data_size joins) read.reads;
-  speaks = λ s told speaks. tt;
-  becomes = λ o told opened. tt;
-  lacks = λ o need gap told opened e. absurd (no_full need gap e);
-  narrow = λ need gap told e. absurd (no_full need gap e);
-  damage = λ told.
-      let d = read.damage told in record {
-        first = λ place e. d.first place (carried (faults.Damaged place) e);
-        broken = λ place e. d.broken place (carried (faults.Damaged place) e);
-        damaged = λ place damage. (tt, (d.damaged place damage).1);
-      };
-  undamaged = λ s told stands place e. let found = segments s told stands in read.whole found.0 place told found.1 (carried (faults.Damaged place) e);
-  unread = λ told none place e. read.unread told none place (carried (faults.Damaged place) e);
-  still = λ told place e. read.reads.content told;
-  unwritten = λ told need gap e. absurd (no_full need gap e);
-  only = ⊎_elim (λ outside. inl outside) (λ damage. inr (inr (inr damage))) read.only;
-  cause = λ e. read.cause (carried faults.Disk e);
-  costs = costs_more (sum_by data_size joins) (bytes + sum_by data_size joins) a b (omega arith) read.reads.costs;
+  done = record {
+    agrees = tt;
+    sound = tt;
+    knows = λ s knows. tt;
+    levels = tt;
+    works = λ held told has. tt;
+    stands = λ s told stands. tt;
+    speaks = λ s told speaks. tt;
+    becomes = λ o told opened. tt;
+  };
+  failed = record {
+    full = λ held need gap told has e. absurd (no_full need gap e);
+    lacks = λ o need gap told opened e. absurd (no_full need gap e);
+    narrow = λ need gap told e. absurd (no_full need gap e);
+    damage = λ told.
+        let d = read.damage told in record {
+          first = λ place e. d.first place (carried (faults.Damaged place) e);
+          broken = λ place e. d.broken place (carried (faults.Damaged place) e);
+          damaged = λ place damage. (tt, (d.damaged place damage).1);
+        };
+    undamaged = λ s told stands place e. let found = segments s told stands in read.whole found.0 place told found.1 (carried (faults.Damaged place) e);
+    unread = λ told none place e. read.unread told none place (carried (faults.Damaged place) e);
+    still = λ told place e. read.reads.content told;
+    unwritten = λ told need gap e. absurd (no_full need gap e);
+    only = ⊎_elim (λ outside. inl outside) (λ damage. inr (inr (inr damage))) read.only;
+    cause = λ e. read.cause (carried faults.Disk e);
+  };
+  throughout = record {
+    images = images_read tells a b lawful_a lawful_b store agrees (sum_by data_size joins) read.reads;
+    between = between_read tells a b lawful_a lawful_b store agrees (sum_by data_size joins) read.reads;
+    costs = costs_more (sum_by data_size joins) (bytes + sum_by data_size joins) a b (omega arith) read.reads.costs;
+  };
 }
   where
     carried : (f : StoreFault) → ◌≡◌ {A = Result T StoreFault} (Err fault) (Err f) → ◌≡◌ {A = Result X StoreFault} (Err fault) (Err f)

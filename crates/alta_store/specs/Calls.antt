@@ -232,48 +232,67 @@ pub record HasSameLevels (tells : Type 0) (before after : DiskState) (store late
   pub bytes : tells → All (λ (level : Tables). bytes_at (extent_of level) after.content
       ≡ bytes_at (extent_of level) before.content) (levels_of store)
 
+-- What holds once it is done.
+pub record ChangesDone {T : Type 0} (tells : Type 0) (work : ℕ → Holding → Result Holding Full)
+    (turns : ℕ → Opened → Result Opened Full → Type 0) (step : State → State) (before after : DiskState)
+    (store later : Store) (result : Result T StoreFault) : Type 0 where
+  -- store and disk agree, the store may be used if it could be before, and it knows the state after
+  pub agrees : OnOk result (Agrees tells after later)
+  pub sound : OnOk result (is_sound later ≡ is_sound store)
+  pub knows : (s : State) → Knows store s → OnOk result (Knows later (step s))
+  -- where the slot that counts is the one of before, the levels have stayed, also on a disk that stands for no state
+  pub levels : OnOk result (later.slot ≡ store.slot → HasSameLevels tells before after store later)
+  -- what is held then is what the work makes of it
+  pub works : (held : Holding) → tells → Has store held before.content
+      → OnOk result ((then : Holding) × (work before.limit held ≡ Ok then) × Has later then after.content)
+  -- the content stands for the state after, and may speak of it
+  pub stands : (s : State) → tells → StandsFor s before.content → OnOk result (StandsFor (step s) after.content)
+  pub speaks : (s : State) → tells → MaySpeakOf s before.content → OnOk result (MaySpeakOf (step s) after.content)
+  -- what is opened then, also on a disk that stands for no state
+  pub becomes : (o : Opened) → tells → IsOpened o before.content
+      → OnOk result ((p : Opened) × turns before.limit o (Ok p) × IsOpened p after.content × Keeps later p)
+
+-- How it fails: each error comes from its cause.
+pub record ChangesFailed {T : Type 0} (tells : Type 0) (work : ℕ → Holding → Result Holding Full)
+    (turns : ℕ → Opened → Result Opened Full → Type 0) (refuses : StoreFault → Type 0) (joins : List Tables)
+    (before after : DiskState) (store : Store) (result : Result T StoreFault) : Type 0 where
+  -- a place that is wanting is one that the work wants, and which one, also on a disk that stands for no state
+  pub full : (held : Holding) (need gap : ℕ) → tells → Has store held before.content
+      → result ≡ Err (faults.Full need gap) → work before.limit held ≡ Err (record { need = need; gap = gap })
+  pub lacks : (o : Opened) (need gap : ℕ) → tells → IsOpened o before.content → result ≡ Err (faults.Full need gap)
+      → turns before.limit o (Err (record { need = need; gap = gap }))
+  pub narrow : (need gap : ℕ) → tells → result ≡ Err (faults.Full need gap)
+      → IsNarrow before.limit after.content need gap
+  pub unwritten : tells → (need gap : ℕ) → result ≡ Err (faults.Full need gap) → after.content ≡ before.content
+  -- damage is that of the levels that are read, and none is written over
+  pub damage : tells → FindsFirstDamage refuses before.content joins result
+  pub undamaged : (s : State) → tells → StandsFor s before.content → (place : ℕ)
+      → result ≡ Err (faults.Damaged place) → ⊥
+  pub unread : tells → joins ≡ [] → (place : ℕ) → result ≡ Err (faults.Damaged place) → ⊥
+  pub still : tells → (place : ℕ) → result ≡ Err (faults.Damaged place) → after.content ≡ before.content
+  pub only : IfErr result (IsCause refuses)
+  pub cause : result ≡ Err faults.Disk → Rose before.faults after.faults
+
+-- What holds at each moment of it, however it ends.
+pub record ChangesThroughout (tells : Type 0) (step : State → State) (bytes : ℕ) (joins : List Tables)
+    (before after : DiskState) : Type 0 where
+  -- an image stands for the state of before or the one after
+  pub images : (s : State) → (tells → StandsFor s before.content) → LeavesOnly (StandsForEither s (step s)) before after
+  -- on a disk that stands for no state too: of each state of which the content of before may speak, an image may speak of it or of the
+  -- one after
+  pub between : (s : State) → (tells → MaySpeakOf s before.content)
+      → LeavesOnly (MaySpeakOfEither s (step s)) before after
+  pub costs : Costs (bytes + sum_by data_size joins) before after
+
 -- By this work, which turns what is opened so, and makes this of a state. It refuses by these faults; it reads the lists of these levels,
 -- and at most so many bytes beside them.
 pub record Changes {T : Type 0} (tells : Type 0) (work : ℕ → Holding → Result Holding Full)
     (turns : ℕ → Opened → Result Opened Full → Type 0) (step : State → State) (refuses : StoreFault → Type 0)
     (bytes : ℕ) (joins : List Tables) (before after : DiskState) (store later : Store)
     (result : Result T StoreFault) : Type 0 where
-  -- once it is done, store and disk agree, the store may be used if it could be before, and it knows the state after
-  pub agrees : OnOk result (Agrees tells after later)
-  pub sound : OnOk result (is_sound later ≡ is_sound store)
-  pub knows : (s : State) → Knows store s → OnOk result (Knows later (step s))
-  -- where the slot that counts is the one of before, the levels have stayed, also on a disk that stands for no state
-  pub levels : OnOk result (later.slot ≡ store.slot → HasSameLevels tells before after store later)
-  -- what is held then is what the work makes of it; and a place that is wanting is one that the work wants
-  pub works : (held : Holding) → tells → Has store held before.content
-      → OnOk result ((then : Holding) × (work before.limit held ≡ Ok then) × Has later then after.content)
-  pub full : (held : Holding) (need gap : ℕ) → tells → Has store held before.content
-      → result ≡ Err (faults.Full need gap) → work before.limit held ≡ Err (record { need = need; gap = gap })
-  -- at each moment an image stands for the state of before or the one after, and for the latter once it is done
-  pub images : (s : State) → (tells → StandsFor s before.content) → LeavesOnly (StandsForEither s (step s)) before after
-  pub stands : (s : State) → tells → StandsFor s before.content → OnOk result (StandsFor (step s) after.content)
-  -- on a disk that stands for no state too: of each state of which the content of before may speak, at each moment an image may speak of
-  -- it or of the one after, and of the latter once it is done
-  pub between : (s : State) → (tells → MaySpeakOf s before.content)
-      → LeavesOnly (MaySpeakOfEither s (step s)) before after
-  pub speaks : (s : State) → tells → MaySpeakOf s before.content → OnOk result (MaySpeakOf (step s) after.content)
-  -- what is opened then, and which place is wanting, there too
-  pub becomes : (o : Opened) → tells → IsOpened o before.content
-      → OnOk result ((p : Opened) × turns before.limit o (Ok p) × IsOpened p after.content × Keeps later p)
-  pub lacks : (o : Opened) (need gap : ℕ) → tells → IsOpened o before.content → result ≡ Err (faults.Full need gap)
-      → turns before.limit o (Err (record { need = need; gap = gap }))
-  -- each error comes from its cause
-  pub narrow : (need gap : ℕ) → tells → result ≡ Err (faults.Full need gap)
-      → IsNarrow before.limit after.content need gap
-  pub damage : tells → FindsFirstDamage refuses before.content joins result
-  pub undamaged : (s : State) → tells → StandsFor s before.content → (place : ℕ)
-      → result ≡ Err (faults.Damaged place) → ⊥
-  pub unread : tells → joins ≡ [] → (place : ℕ) → result ≡ Err (faults.Damaged place) → ⊥
-  pub still : tells → (place : ℕ) → result ≡ Err (faults.Damaged place) → after.content ≡ before.content
-  pub unwritten : tells → (need gap : ℕ) → result ≡ Err (faults.Full need gap) → after.content ≡ before.content
-  pub only : IfErr result (IsCause refuses)
-  pub cause : result ≡ Err faults.Disk → Rose before.faults after.faults
-  pub costs : Costs (bytes + sum_by data_size joins) before after
+  pub done : ChangesDone tells work turns step before after store later result
+  pub failed : ChangesFailed tells work turns refuses joins before after store result
+  pub throughout : ChangesThroughout tells step bytes joins before after
 
 -- a call that does a task
 abbrev pub Obeys : {T : Type 0} → Type 0 → Task → (State → State) → (StoreFault → Type 0) → DiskState → DiskState

@@ -35,29 +35,29 @@ returns-in-Ok-clause-answers g c =
     let obeys = c.in-Ok.ensures.obeys intact.state c.in-Ok.number intact.knows (c.in-Ok.ensures.number intact.state intact.knows) in
     changed g.D.Disk.tells g.D.Disk.state c.args.disk.now c.delete.new.disk c.args.self.now _ c.deleted.result (deleting c.args.name.now) (λ m. task_of_delete c.args.name.now m.state) _ c.deleted.ensures (deleted_is_none c.in-Ok.number) refl
     (record {
-      sound = (c.requires.sound.0, obeys.sound ∙ c.requires.sound.1);
-      agrees = obeys.agrees;
-      known = kept_left g.D.Disk.tells (g.D.Disk.state c.args.disk.now) (g.D.Disk.state c.delete.new.disk) c.args.self.now.store c.delete.new.self _ _ _ c.requires.known c.slot-before.ensures obeys.levels c.forget_left.ensures;
-      limit = omega (arith, c.requires.limit, obeys.costs.limit);
-    }) obeys.costs.faults obeys.costs.limit
+      sound = (c.requires.sound.0, obeys.done.sound ∙ c.requires.sound.1);
+      agrees = obeys.done.agrees;
+      known = kept_left g.D.Disk.tells (g.D.Disk.state c.args.disk.now) (g.D.Disk.state c.delete.new.disk) c.args.self.now.store c.delete.new.self _ _ _ c.requires.known c.slot-before.ensures obeys.done.levels c.forget_left.ensures;
+      limit = omega (arith, c.requires.limit, obeys.throughout.costs.limit);
+    }) obeys.throughout.costs.faults obeys.throughout.costs.limit
     (λ m tell agrees.
     let numbered : number_of c.args.name.now m.state ≡ Some c.in-Ok.number = c.in-Ok.ensures.number m.state (knows_state g.D.Disk.tells (g.D.Disk.state c.args.disk.now) c.args.self.now m agrees tell) in
     let is = deleting_deleted c.args.name.now m.state c.in-Ok.number (search rules) numbered in
     let to : with_deleted c.args.name.now m.state ≡ (deleting c.args.name.now m.state).0 = sym (ap (λ (p : State × List ℕ). p.0) is) in
     record {
       reply = ap (λ (p : State × List ℕ). p.1) is;
-      stands = subst (λ (t : State). StandsFor t (g.D.Disk.state c.delete.new.disk).content) to (obeys.stands m.state tell (agrees.stands tell));
-      images = subst (λ (t : State). LeavesOnly (StandsForEither m.state t) (g.D.Disk.state c.args.disk.now) (g.D.Disk.state c.delete.new.disk)) to (obeys.images m.state agrees.stands);
+      stands = subst (λ (t : State). StandsFor t (g.D.Disk.state c.delete.new.disk).content) to (obeys.done.stands m.state tell (agrees.stands tell));
+      images = subst (λ (t : State). LeavesOnly (StandsForEither m.state t) (g.D.Disk.state c.args.disk.now) (g.D.Disk.state c.delete.new.disk)) to (obeys.throughout.images m.state agrees.stands);
       works = λ held here.
           obeyed_works (g.D.Disk.state c.args.disk.now).limit held (enters (Delete c.in-Ok.number)) _ (λ now. Has c.delete.new.self now (g.D.Disk.state c.delete.new.disk).content)
-          (delete_enters c.args.name.now m.state c.in-Ok.number (search rules) numbered) (obeys.works held tell here);
+          (delete_enters c.args.name.now m.state c.in-Ok.number (search rules) numbered) (obeys.done.works held tell here);
     })
     (λ s tell speaks.
     let numbered : number_of c.args.name.now s ≡ Some c.in-Ok.number = c.in-Ok.ensures.number s (knows_spoken g.D.Disk.tells (g.D.Disk.state c.args.disk.now) c.args.self.now.store c.requires.agrees s tell speaks) in
     let to : with_deleted c.args.name.now s ≡ (deleting c.args.name.now s).0 = sym (ap (λ (p : State × List ℕ). p.0) (deleting_deleted c.args.name.now s c.in-Ok.number (search rules) numbered)) in
     record {
-      speaks = if_so c.deleted.result _ (subst (λ (t : State). MaySpeakOf t (g.D.Disk.state c.delete.new.disk).content) to (obeys.speaks s tell speaks));
-      images = subst (λ (t : State). LeavesOnly (MaySpeakOfEither s t) (g.D.Disk.state c.args.disk.now) (g.D.Disk.state c.delete.new.disk)) to (obeys.between s (λ told. speaks));
+      speaks = if_so c.deleted.result _ (subst (λ (t : State). MaySpeakOf t (g.D.Disk.state c.delete.new.disk).content) to (obeys.done.speaks s tell speaks));
+      images = subst (λ (t : State). LeavesOnly (MaySpeakOfEither s t) (g.D.Disk.state c.args.disk.now) (g.D.Disk.state c.delete.new.disk)) to (obeys.throughout.between s (λ told. speaks));
     })
 
 pub returns-in-Missing-clause-answers : goal.returns-in-Missing-clause-answers
@@ -86,29 +86,29 @@ returns-in_default-clause-answers g c =
           record {
             reply = tt;
             agrees = tt;
-            images = leaves_deleting StandsForEither (g.D.Disk.state c.args.disk.now) (g.D.Disk.state c.delete.new.disk) c.args.name.now m.state (search rules) (does.images m.state agrees.stands) (λ none. absurd (some none));
+            images = leaves_deleting StandsForEither (g.D.Disk.state c.args.disk.now) (g.D.Disk.state c.delete.new.disk) c.args.name.now m.state (search rules) (does.throughout.images m.state agrees.stands) (λ none. absurd (some none));
             refused = λ refusal. missing_for _ c.args.name.now m.state (search rules) (λ none. absurd (some none)) refusal;
             works = λ held here. tt;
             full = λ held need gap here is.
                 let same : c.in-Err.fault ≡ Full need gap = cc in
-                obeyed_full (g.D.Disk.state c.args.disk.now).limit held (enters (Delete number.0)) _ need gap (delete_enters c.args.name.now m.state number.0 (search rules) number.1) (does.full held need gap tell here (ap Err same));
-            undamaged = λ place is. let same : c.in-Err.fault ≡ Damaged place = cc in does.undamaged m.state tell (agrees.stands tell) place (ap Err same);
+                obeyed_full (g.D.Disk.state c.args.disk.now).limit held (enters (Delete number.0)) _ need gap (delete_enters c.args.name.now m.state number.0 (search rules) number.1) (does.failed.full held need gap tell here (ap Err same));
+            undamaged = λ place is. let same : c.in-Err.fault ≡ Damaged place = cc in does.failed.undamaged m.state tell (agrees.stands tell) place (ap Err same);
           };
       spoken = λ m tell speaks.
           let knows = knows_spoken g.D.Disk.tells (g.D.Disk.state c.args.disk.now) c.args.self.now.store c.requires.agrees m.state tell speaks in
           let some : has_name c.args.name.now m.state ≡ false → ⊥ = λ none. c.in_default.not-Missing (same_fault _ _ _ c.in-Err.is ((c.delete.ensures.missing m.state knows).1 none)) in
           let number = deleted_where c.args.name.now m.state some in
           let does = c.in-Err.ensures.obeys m.state number.0 knows number.1 in
-          record { speaks = tt; images = leaves_deleting MaySpeakOfEither (g.D.Disk.state c.args.disk.now) (g.D.Disk.state c.delete.new.disk) c.args.name.now m.state (search rules) (does.between m.state (λ told. speaks)) (λ none. absurd (some none)) };
+          record { speaks = tt; images = leaves_deleting MaySpeakOfEither (g.D.Disk.state c.args.disk.now) (g.D.Disk.state c.delete.new.disk) c.args.name.now m.state (search rules) (does.throughout.between m.state (λ told. speaks)) (λ none. absurd (some none)) };
       can = tt;
       unchanged = tt;
-      only = some_only c.in-Err.fault obeys.only;
-      full = λ need gap tell is. let same : c.in-Err.fault ≡ Full need gap = cc in narrow_at _ _ _ need gap obeys.costs.limit (obeys.narrow need gap tell (ap Err same));
-      still = λ place tell is. let same : c.in-Err.fault ≡ Damaged place = cc in obeys.still tell place (ap Err same);
-      unwritten = λ need gap tell is. let same : c.in-Err.fault ≡ Full need gap = cc in obeys.unwritten tell need gap (ap Err same);
-      cause = λ is. let same : c.in-Err.fault ≡ Disk = cc in obeys.cause (ap Err same);
-      faults = obeys.costs.faults;
-      same_limit = obeys.costs.limit;
+      only = some_only c.in-Err.fault obeys.failed.only;
+      full = λ need gap tell is. let same : c.in-Err.fault ≡ Full need gap = cc in narrow_at _ _ _ need gap obeys.throughout.costs.limit (obeys.failed.narrow need gap tell (ap Err same));
+      still = λ place tell is. let same : c.in-Err.fault ≡ Damaged place = cc in obeys.failed.still tell place (ap Err same);
+      unwritten = λ need gap tell is. let same : c.in-Err.fault ≡ Full need gap = cc in obeys.failed.unwritten tell need gap (ap Err same);
+      cause = λ is. let same : c.in-Err.fault ≡ Disk = cc in obeys.failed.cause (ap Err same);
+      faults = obeys.throughout.costs.faults;
+      same_limit = obeys.throughout.costs.limit;
     }
 
 pub returns-then-not-name_ok-clause-works : goal.returns-then-not-name_ok-clause-works
@@ -132,9 +132,9 @@ returns-in_default-clause-works g c =
     let there : has_name c.args.name.now s ≡ false → ⊥ = λ none. c.in_default.not-Missing (same_fault _ _ _ c.in-Err.is ((c.delete.ensures.missing s knows).1 none)) in
     let n = deleted_where c.args.name.now s there in
     joins_task c.args.self.now.store (g.D.Disk.state c.args.disk.now).content place _ (enters (Delete n.0)) (delete_enters c.args.name.now s n.0 (search rules) n.1)
-    (((c.in-Err.ensures.obeys s n.0 knows n.1).damage tell).broken place (ap Err is)))
+    (((c.in-Err.ensures.obeys s n.0 knows n.1).failed.damage tell).broken place (ap Err is)))
     (λ s o need gap knows tell is lacks.
     let there : has_name c.args.name.now s ≡ false → ⊥ = λ none. c.in_default.not-Missing (same_fault _ _ _ c.in-Err.is ((c.delete.ensures.missing s knows).1 none)) in
     let n = deleted_where c.args.name.now s there in
-    lacks_task _ (g.D.Disk.state c.args.disk.now).content c.args.self.now.store o need gap _ (enters (Delete n.0)) (delete_enters c.args.name.now s n.0 (search rules) n.1) ((c.in-Err.ensures.obeys s n.0 knows n.1).lacks o need gap tell is (ap Err lacks)))
+    lacks_task _ (g.D.Disk.state c.args.disk.now).content c.args.self.now.store o need gap _ (enters (Delete n.0)) (delete_enters c.args.name.now s n.0 (search rules) n.1) ((c.in-Err.ensures.obeys s n.0 knows n.1).failed.lacks o need gap tell is (ap Err lacks)))
     (λ none. absurd none)

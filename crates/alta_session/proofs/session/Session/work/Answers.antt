@@ -23,18 +23,18 @@ returns-in-Ok-clause-answers g c =
     let obeys = c.in-Ok.ensures.obeys in
     changed g.D.Disk.tells g.D.Disk.state c.args.disk.now c.do_work.new.disk c.args.self.now _ c.text.result (λ (s : State). (s, codes "ok\n")) (λ m. Some (work_task c.args.work)) _ c.text.ensures ok_is_none refl
     (record {
-      sound = (c.requires.sound.0, obeys.sound ∙ c.requires.sound.1);
-      agrees = obeys.agrees;
-      known = kept_left g.D.Disk.tells (g.D.Disk.state c.args.disk.now) (g.D.Disk.state c.do_work.new.disk) c.args.self.now.store c.do_work.new.store _ _ _ c.requires.known c.slot-before.ensures obeys.levels c.forget_left.ensures;
-      limit = omega (arith, c.requires.limit, obeys.costs.limit);
-    }) obeys.costs.faults obeys.costs.limit
+      sound = (c.requires.sound.0, obeys.done.sound ∙ c.requires.sound.1);
+      agrees = obeys.done.agrees;
+      known = kept_left g.D.Disk.tells (g.D.Disk.state c.args.disk.now) (g.D.Disk.state c.do_work.new.disk) c.args.self.now.store c.do_work.new.store _ _ _ c.requires.known c.slot-before.ensures obeys.done.levels c.forget_left.ensures;
+      limit = omega (arith, c.requires.limit, obeys.throughout.costs.limit);
+    }) obeys.throughout.costs.faults obeys.throughout.costs.limit
     (λ m tell agrees. record {
       reply = refl;
-      stands = obeys.stands m.state tell (agrees.stands tell);
-      images = obeys.images m.state agrees.stands;
-      works = λ held here. obeyed_works (g.D.Disk.state c.args.disk.now).limit held (work_task c.args.work) (Some (work_task c.args.work)) (λ now. Has c.do_work.new.store now (g.D.Disk.state c.do_work.new.disk).content) refl (obeys.works held tell here);
+      stands = obeys.done.stands m.state tell (agrees.stands tell);
+      images = obeys.throughout.images m.state agrees.stands;
+      works = λ held here. obeyed_works (g.D.Disk.state c.args.disk.now).limit held (work_task c.args.work) (Some (work_task c.args.work)) (λ now. Has c.do_work.new.store now (g.D.Disk.state c.do_work.new.disk).content) refl (obeys.done.works held tell here);
     })
-    (λ s tell speaks. record { speaks = if_so c.text.result _ (obeys.speaks s tell speaks); images = obeys.between s (λ told. speaks) })
+    (λ s tell speaks. record { speaks = if_so c.text.result _ (obeys.done.speaks s tell speaks); images = obeys.throughout.between s (λ told. speaks) })
 
 -- it failed
 pub returns-in-Err-clause-answers : goal.returns-in-Err-clause-answers
@@ -44,24 +44,24 @@ returns-in-Err-clause-answers g c =
       from = λ m tell agrees. record {
         reply = tt;
         agrees = tt;
-        images = obeys.images m.state agrees.stands;
+        images = obeys.throughout.images m.state agrees.stands;
         refused = λ refusal. absurd (ok_is_none refusal);
         works = λ held here. tt;
         full = λ held need gap here is.
             let same : c.in-Err.fault ≡ Full need gap = cc in
-            obeyed_full (g.D.Disk.state c.args.disk.now).limit held (work_task c.args.work) (Some (work_task c.args.work)) need gap refl (obeys.full held need gap tell here (ap Err same));
-        undamaged = λ place is. let same : c.in-Err.fault ≡ Damaged place = cc in obeys.undamaged m.state tell (agrees.stands tell) place (ap Err same);
+            obeyed_full (g.D.Disk.state c.args.disk.now).limit held (work_task c.args.work) (Some (work_task c.args.work)) need gap refl (obeys.failed.full held need gap tell here (ap Err same));
+        undamaged = λ place is. let same : c.in-Err.fault ≡ Damaged place = cc in obeys.failed.undamaged m.state tell (agrees.stands tell) place (ap Err same);
       };
-      spoken = λ m tell speaks. record { speaks = tt; images = obeys.between m.state (λ told. speaks) };
+      spoken = λ m tell speaks. record { speaks = tt; images = obeys.throughout.between m.state (λ told. speaks) };
       can = tt;
       unchanged = tt;
-      only = some_only c.in-Err.fault obeys.only;
-      full = λ need gap tell is. let same : c.in-Err.fault ≡ Full need gap = cc in narrow_at _ _ _ need gap obeys.costs.limit (obeys.narrow need gap tell (ap Err same));
-      still = λ place tell is. let same : c.in-Err.fault ≡ Damaged place = cc in obeys.still tell place (ap Err same);
-      unwritten = λ need gap tell is. let same : c.in-Err.fault ≡ Full need gap = cc in obeys.unwritten tell need gap (ap Err same);
-      cause = λ is. let same : c.in-Err.fault ≡ Disk = cc in obeys.cause (ap Err same);
-      faults = obeys.costs.faults;
-      same_limit = obeys.costs.limit;
+      only = some_only c.in-Err.fault obeys.failed.only;
+      full = λ need gap tell is. let same : c.in-Err.fault ≡ Full need gap = cc in narrow_at _ _ _ need gap obeys.throughout.costs.limit (obeys.failed.narrow need gap tell (ap Err same));
+      still = λ place tell is. let same : c.in-Err.fault ≡ Damaged place = cc in obeys.failed.still tell place (ap Err same);
+      unwritten = λ need gap tell is. let same : c.in-Err.fault ≡ Full need gap = cc in obeys.failed.unwritten tell need gap (ap Err same);
+      cause = λ is. let same : c.in-Err.fault ≡ Disk = cc in obeys.failed.cause (ap Err same);
+      faults = obeys.throughout.costs.faults;
+      same_limit = obeys.throughout.costs.limit;
     }
 
 pub returns-in-Ok-clause-works : goal.returns-in-Ok-clause-works
@@ -70,5 +70,5 @@ returns-in-Ok-clause-works g c = works_done g.D.Disk.tells g.D.Disk.state c.args
 
 pub returns-in-Err-clause-works : goal.returns-in-Err-clause-works
 returns-in-Err-clause-works g c =
-    works_failed g.D.Disk.tells g.D.Disk.state c.args.disk.now c.do_work.new.disk c.args.self.now.store (asks (work_command c.args.work)) c.in-Err.fault (λ s place knows tell is. joins_task c.args.self.now.store (g.D.Disk.state c.args.disk.now).content place _ (work_task c.args.work) (asks_task (started_at s) c.args.work) ((c.in-Err.ensures.obeys.damage tell).broken place (ap Err is)))
-    (λ s o need gap knows tell is lacks. lacks_task (g.D.Disk.state c.args.disk.now).limit (g.D.Disk.state c.args.disk.now).content c.args.self.now.store o need gap _ (work_task c.args.work) (asks_task (started_at s) c.args.work) (c.in-Err.ensures.obeys.lacks o need gap tell is (ap Err lacks))) (λ idle. failed_done c.in-Err.fault c.do_work.result c.in-Err.is (c.do_work.ensures.idle idle).0)
+    works_failed g.D.Disk.tells g.D.Disk.state c.args.disk.now c.do_work.new.disk c.args.self.now.store (asks (work_command c.args.work)) c.in-Err.fault (λ s place knows tell is. joins_task c.args.self.now.store (g.D.Disk.state c.args.disk.now).content place _ (work_task c.args.work) (asks_task (started_at s) c.args.work) ((c.in-Err.ensures.obeys.failed.damage tell).broken place (ap Err is)))
+    (λ s o need gap knows tell is lacks. lacks_task (g.D.Disk.state c.args.disk.now).limit (g.D.Disk.state c.args.disk.now).content c.args.self.now.store o need gap _ (work_task c.args.work) (asks_task (started_at s) c.args.work) (c.in-Err.ensures.obeys.failed.lacks o need gap tell is (ap Err lacks))) (λ idle. failed_done c.in-Err.fault c.do_work.result c.in-Err.is (c.do_work.ensures.idle idle).0)

@@ -11,6 +11,7 @@ use Rattle.alta_rewrite.specs.Rewrites.{no_content}
 use Rattle.alta_store.specs.Agreement.{levels_of}
 use Rattle.alta_store.specs.Putting.{ReadsLevels}
 use Rattle.alta_store.specs.declared.fault.StoreFault.{StoreFault}
+use Rattle.alta_store.proofs.Changing.{changes_wanting}
 use Rattle.alta_store.proofs.Flushing.{ObeysOver}
 use Rattle.alta_store.proofs.Joining.{levels_now, levels_stand, read_done, read_failed, segments_here, undamaged_read}
 use Rattle.alta_store.proofs.Stepping.{all_put, given_up, merge_put, merged_as, newest_as, newest_behind_levels}
@@ -37,6 +38,10 @@ merge_levels-requires-clause-newest g c =
       newest_as (levels_of store) c.levels-levels.result.now (gone_of store.catalog) c.gone-gone.result.now (newest_of store.root intact.entries) c.in-Ok.newest (levels_now store c.drain.new.self drained ∙ sym c.levels-levels.ensures)
           (sym drained.catalog.gone ∙ sym c.gone-gone.ensures.value) (newest_behind_levels store intact intact.entries intact.follows.content intact.follows.made c.in-Ok.newest c.in-Ok.ensures.content),
     )
+
+pub returns-in-Err : goal.returns-in-Err
+returns-in-Err g c =
+    changes_wanting g.D.Disk.tells _ _ 1 _ (g.D.Disk.state c.args.disk.now) c.args.self.now c.drain.new.self c.in-Err.fault (g.met.D.Disk.lawful c.args.disk.now) c.requires.agrees c.in-Err.ensures.memory
 
 pub returns-in-Err-merge_levels : goal.returns-in-Err-merge_levels
 returns-in-Err-merge_levels g c =
