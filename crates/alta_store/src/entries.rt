@@ -90,8 +90,16 @@ impl Store {
             (D.state disk.new) self.old self.new result }
     {
         match replaced {
-            None => self.enter_add(disk, name, title, body),
-            Some(number) => self.enter_replace(disk, number, name, title, body),
+            None => self.enter(disk, &LentEntry::Add { name, title, body }),
+            Some(number) => self.enter(
+                disk,
+                &LentEntry::Replace {
+                    number,
+                    name,
+                    title,
+                    body,
+                },
+            ),
         }
     }
 
@@ -136,31 +144,10 @@ impl Store {
             return Err(StoreFault::Numbers);
         }
         let (_, _, number) = self.catalog.counts();
-        match self.enter_add(disk, name, title, body) {
+        match self.enter_put(disk, None, name, title, body) {
             Ok(()) => Ok(number),
             Err(fault) => Err(self.failed(fault)),
         }
-    }
-
-    // Adds a document whose name is free and for which a number is left.
-    fn enter_add<D: Disk>(
-        &mut self,
-        disk: &mut D,
-        name: &str,
-        title: &str,
-        body: &str,
-    ) -> Result<(), StoreFault>
-        requires document { IsDocument name.now title.now body.now }
-        requires agrees { Agrees D.tells (D.state disk.old) self.old }
-        requires free { (s : State) → Knows self.old s → has_name name.now s ≡ false }
-        requires number { (s : State) → Knows self.old s → s.next < 4294967296 }
-        requires limit { HEAD_BYTES ≤ (D.state disk.old).limit }
-
-        ensures { Obeys D.tells (enters (Add name.now title.now body.now))
-            (with_added name.now title.now body.now) NoRefusal (D.state disk.old)
-            (D.state disk.new) self.old self.new result }
-    {
-        self.enter(disk, &LentEntry::Add { name, title, body })
     }
 
     /// Puts a document in place of the live one with its name, by one record in the journal, and answers the number of that one and its own.
@@ -205,40 +192,10 @@ impl Store {
             return Err(StoreFault::Numbers);
         }
         let (_, _, new) = self.catalog.counts();
-        match self.enter_replace(disk, old, name, title, body) {
+        match self.enter_put(disk, Some(old), name, title, body) {
             Ok(()) => Ok((old, new)),
             Err(fault) => Err(self.failed(fault)),
         }
-    }
-
-    // Puts a document in place of one that was found, with a number that is left.
-    fn enter_replace<D: Disk>(
-        &mut self,
-        disk: &mut D,
-        number: u64,
-        name: &str,
-        title: &str,
-        body: &str,
-    ) -> Result<(), StoreFault>
-        requires document { IsDocument name.now title.now body.now }
-        requires agrees { Agrees D.tells (D.state disk.old) self.old }
-        requires named { (s : State) → Knows self.old s → number_of name.now s ≡ Some number }
-        requires left { (s : State) → Knows self.old s → s.next < 4294967296 }
-        requires limit { HEAD_BYTES ≤ (D.state disk.old).limit }
-
-        ensures { Obeys D.tells (enters (Replace number name.now title.now body.now))
-            (with_replaced name.now title.now body.now) NoRefusal (D.state disk.old)
-            (D.state disk.new) self.old self.new result }
-    {
-        self.enter(
-            disk,
-            &LentEntry::Replace {
-                number,
-                name,
-                title,
-                body,
-            },
-        )
     }
 
     /// Deletes the live document with this name, by one record in the journal, and answers its number. Where the record does not fit in
