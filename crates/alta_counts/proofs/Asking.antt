@@ -12,9 +12,10 @@ use Rattle.alta_lead.specs.Having.{ends_having}
 use Rattle.alta_lead.specs.HavingLaws.{having-rises}
 use Rattle.alta_counts.specs.Live.{count_live}
 use Rattle.alta_counts.specs.Asked.{ends_asked}
-use Rattle.alta_counts.specs.ByLevel.{window, between, IsCleft, ends_for}
-use Rattle.alta_counts.specs.declared.by_level.Asking.{Asking}
-use Rattle.alta_counts.specs.declared.by_level.Asking.TheVariants.{Led, Walked}
+use Rattle.alta_counts.specs.ByLevel.{window, between, IsCleft}
+use Rattle.alta_counts.specs.Walking.{ends_for}
+use Rattle.alta_counts.specs.declared.walk.Asking.{Asking}
+use Rattle.alta_counts.specs.declared.walk.Asking.TheVariants.{Led, Walked}
 use Rattle.alta_counts.proofs.Cutting.{between_window}
 use Rattle.alta_counts.proofs.Levels.{whole, parts_are}
 use Rattle.alta_counts.proofs.Windows.{all_into, live_window, union_window, having_window, followed_window}

@@ -7,12 +7,12 @@ use Rattle.alta_compile.specs.Space.{Placed, ends_of, list_of}
 use Rattle.alta_compile.specs.declared.asked.Conjunction.{Conjunction}
 use Rattle.alta_lead.specs.Having.{ends_having}
 use Rattle.alta_counts.specs.Live.{count_live}
-use Rattle.alta_counts.specs.Asked.{ends_asked}
+use Rattle.alta_counts.specs.Walking.{ends_for}
 use Rattle.alta_search.specs.Lists.{lists_at}
 use Rattle.alta_search.specs.View.{View, Shows}
 use Rattle.alta_search.specs.Walked.{AreSearchSteps}
-use Rattle.alta_counts.specs.declared.by_level.Asking.{Asking}
-use Rattle.alta_counts.specs.declared.by_level.Asking.TheVariants.{Led, Walked}
+use Rattle.alta_counts.specs.declared.walk.Asking.{Asking}
+use Rattle.alta_counts.specs.declared.walk.Asking.TheVariants.{Led, Walked}
 use Rattle.alta_search.specs.declared.lists.TestLists.{TestLists}
 
 abbrev pub is_inside : ℕ → ℕ → ℕ → Bool
@@ -57,11 +57,6 @@ having_all tests ends words negated = ends_having (whole_at tests ends) (map (wh
     (map (whole_at tests) negated)
 
 -- ---- what is asked of the words of a document
-
--- the ends of the documents of which it is so
-abbrev pub ends_for : Asking → List ℕ → List (List ℕ) → List (List ℕ) → List ℕ
-ends_for (Led lead) ends words negated = ends_having ends words negated
-ends_for (Walked followed) ends words negated = ends_asked followed ends words
 
 -- by the indexes of the tests
 abbrev pub ends_at : List TestLists → Asking → ℕ → List ℕ → List ℕ → List ℕ

@@ -5,3 +5,4 @@ pub mod Either
 pub mod Titled
 pub mod Stems
 pub mod Live
+pub mod Walking

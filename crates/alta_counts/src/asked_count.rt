@@ -15,7 +15,8 @@ ghost use Rattle.alta_search.specs.Plans.{lists, locations};
 ghost use Rattle.alta_search.specs.View.{Shows};
 ghost use Rattle.alta_search.specs.Walked.{WalksOver};
 
-use crate::by_level::{Asking, count_levels};
+use crate::by_level::count_levels;
+use crate::walk::Asking;
 use alta_codec::{Loc, Steps};
 use alta_search::{Section, TestLists};
 use std::alloc::{AllocError, Global};

@@ -20,8 +20,8 @@ ghost use Rattle.alta_search.specs.Met.{IsExact};
 ghost use Rattle.alta_search.specs.Readers.{Each, IsAtStart};
 ghost use Rattle.alta_search.specs.Words.{IsSoundSingle, single_list, single_place, single_left};
 
-use crate::asked_walk::asked_by_kind;
 use crate::tallies::tally;
+use crate::walk::{Asking, by_kind};
 use alta_codec::{Loc, Steps, TOP};
 use alta_compile::Conjunction;
 use alta_search::leading::{chain_reader, every_third, list_reader, rarest, term_len};
@@ -34,15 +34,6 @@ use std::sync::ledger::Ledger;
 
 /// Of how many locations a level, taken over all levels, the words have more where the levels are walked over one by one.
 const FEW: u64 = 64;
-
-/// What is asked of the words of a document.
-#[derive(Clone, Copy, Drop)]
-pub(crate) enum Asking {
-    /// Each of them and none of the negated words; the word of this index leads.
-    Led(usize),
-    /// The first of two before the second where this is so, else one of them.
-    Walked(bool),
-}
 
 /// The lists of the first of these terms.
 fn levels_in<'a>(terms: &'a [TermLists]) -> &'a [LevelList]
@@ -348,7 +339,9 @@ fn walked_between<L: Ledger>(
 {
     let ends = level_reader(alloc, lists_between(tests, ends, low, high), steps)?;
     let words = level_readers(alloc, tests, words, low, high, steps)?;
-    let live = asked_by_kind(alloc, followed, ends, words, gone, steps)?;
+    let walk = Asking::Walked(followed);
+    let negated = Vec::new(alloc);
+    let live = by_kind(alloc, walk, ends, words, negated, 0, gone, steps)?;
     Ok(live)
 }
 

@@ -11,7 +11,7 @@ ghost use Rattle.alta_search.specs.View.{Shows};
 ghost use Rattle.alta_search.specs.Words.{IsSoundReader, reader_list, reader_left, IsUnmovedReader};
 ghost use Rattle.alta_search.specs.Walked.{WalksOver};
 
-use crate::asked_walk::asked_words;
+use crate::walk::{Asking, walked};
 use alta_codec::{Loc, Steps};
 use alta_search::readers::{reader, readers};
 use alta_search::{Section, TestLists, TestReader, terms_at};
@@ -21,6 +21,7 @@ use std::sync::ledger::Ledger;
 /// How many documents have a location of one of the tests and were not deleted, by a walk for the kind of the ends. No reader was
 /// moved.
 fn stem_by_kind<'a, L: Ledger>(
+    alloc: Global,
     ends: TestReader<'a>,
     words: Vec<TestReader<'a>>,
     gone: &[Loc],
@@ -35,9 +36,11 @@ fn stem_by_kind<'a, L: Ledger>(
         (map reader_list words.entry.items)) gone.now 0 }
     ensures steps { steps.new ≤ steps.old + (reader_left ends.entry + sum_by reader_left words.entry.items) }
 {
+    let walk = Asking::Walked(false);
+    let negated = Vec::new(alloc);
     match ends {
-        TestReader::Plain(plain) => asked_words(false, plain, words, gone, steps),
-        other => asked_words(false, other, words, gone, steps),
+        TestReader::Plain(plain) => walked(walk, plain, words, negated, 0, gone, steps),
+        other => walked(walk, other, words, negated, 0, gone, steps),
     }
 }
 
@@ -62,7 +65,7 @@ fn stem_uses<L: Ledger>(
     let (front, words) = uses.split_at(1);
     let ends = reader(alloc, terms_at(tests, front[0]), steps)?;
     let words = readers(alloc, tests, words, steps)?;
-    Ok(stem_by_kind(ends, words, gone, steps))
+    Ok(stem_by_kind(alloc, ends, words, gone, steps))
 }
 
 /// How many documents have a term of a stem and were not deleted, over the snapshot of the tests of its plan. It adds at most as

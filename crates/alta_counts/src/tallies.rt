@@ -3,11 +3,17 @@ ghost use Rattle.std.specs.Prelude.{◌≡◌, ℕ, ◌+◌, ◌<◌, ◌≤◌,
 ghost use Rattle.alta_codec.specs.declared.location.TheConstants.{TOP};
 ghost use Rattle.alta_codec.specs.Rising.{IsRising};
 ghost use Rattle.alta_counts.specs.Live.{count_live};
+ghost use Rattle.alta_lead.specs.Moves.{left_of, list_of};
+ghost use Rattle.alta_lead.specs.View.{chains_of};
+ghost use Rattle.alta_search.specs.Leads.{IsSoundLed, led_moves};
 ghost use Rattle.alta_search.specs.Walks.{IsReading, IsOnward};
+ghost use Rattle.alta_search.specs.Words.{single_list, single_left};
 
-use crate::led_walk::tally_led;
+use crate::walk::{Asking, by_kind};
 use alta_codec::{Loc, Steps, TOP, index_from};
-use alta_search::PlanReader;
+use alta_lead::LeadReader;
+use alta_reader::Reader;
+use alta_search::{PlanReader, SingleReader};
 use std::alloc::{AllocError, Global};
 use std::sync::ledger::Ledger;
 
@@ -69,6 +75,38 @@ fn tally_each<L: Ledger>(reader: PlanReader<'_>, gone: &[Loc], steps: &mut Steps
         at = index_from(gone, at + 1, walk.loc());
     }
     live + pass(&mut walk, TOP, steps)
+}
+
+/// The same of a reader that a word leads, by a walk over its readers without it. Fails for want of memory alone.
+fn tally_led<L: Ledger>(
+    alloc: Global,
+    reader: LeadReader<SingleReader<'_>>,
+    gone: &[Loc],
+    steps: &mut Steps<L>,
+) -> Result<u64, AllocError>
+    requires sound { IsSoundLed reader }
+    requires gone { IsRising gone.now }
+    ensures count { IfOk result (λ n. n ≡ count_live (list_of single_list (chains_of reader.entry))
+        gone.now reader.entry.at) }
+    ensures steps { steps.new ≤ steps.old + left_of single_left (chains_of reader.entry) }
+    ensures moves { steps.new ≤ steps.old + led_moves reader.entry }
+{
+    let at = reader.loc();
+    if at == TOP {
+        return Ok(0);
+    }
+    let (ends, words, negated, lead) = reader.into_parts();
+    let walk = Asking::Led(lead);
+    by_kind(
+        alloc,
+        walk,
+        ends.into_inner(),
+        words,
+        negated,
+        at,
+        gone,
+        steps,
+    )
 }
 
 /// How many ends the reader has that were not deleted, from where it stands on. Where a word leads it, its readers are walked

@@ -8,8 +8,8 @@ use Rattle.alta_counts.specs.ByLevel.{between, levels_of}
 use Rattle.alta_search.specs.Lists.{level_list}
 use Rattle.alta_search.specs.Readers.{Each, IsAtStart}
 use Rattle.alta_search.specs.Words.{IsSoundSingle, single_list, single_place, single_left}
-use Rattle.alta_search.specs.declared.lists.TestLists.{TestLists}
 use Rattle.alta_search.specs.declared.single_reader.SingleReader.{SingleReader}
+use Rattle.alta_search.specs.declared.lists.TestLists.{TestLists}
 use Rattle.alta_counts.proofs.Cutting.{between_rises}
 use Rattle.alta_search.proofs.Parts.{each_more, each_all, each_first, each_second}
 use Rattle.alta_search.proofs.Unions.{more_of, most_of}

@@ -1,7 +1,8 @@
-use Rattle.std.proofs.Common.{ℕ, List, ◌∷◌, map, length, sym, subst, ap, ◌∙◌, arith}
+use Rattle.std.proofs.Common.{ℕ, List, ◌∷◌, map, length, refl, sym, subst, ap, ◌∙◌, arith}
+use Rattle.std.specs.Prelude.{All, sum_by}
 use Rattle.std.specs.List.{concat}
 use Rattle.std.proofs.lemmas.List.{length-map}
-use Rattle.std.proofs.lemmas.List.Elements.{All-head, All-tail}
+use Rattle.std.proofs.lemmas.List.Elements.{All-nil, All-head, All-tail}
 use Rattle.std.proofs.lemmas.List.Sums.{sum_by-cons}
 use Rattle.alta_codec.specs.Rising.{IsRising, first_from}
 use Rattle.alta_counts.specs.Live.{count_live}
@@ -9,8 +10,9 @@ use Rattle.alta_counts.specs.Asked.{ends_asked}
 use Rattle.alta_counts.specs.ByLevel.{between, levels_of, whole_at, part_at}
 use Rattle.alta_search.specs.Lists.{level_list}
 use Rattle.alta_search.specs.Readers.{IsAtStart}
-use Rattle.alta_search.specs.Words.{single_list, single_place, single_left}
+use Rattle.alta_search.specs.Words.{IsSoundSingle, single_list, single_place, single_left}
 use Rattle.alta_search.specs.declared.lists.TestLists.{TestLists}
+use Rattle.alta_counts.proofs.CodedReaders.{places_are}
 use Rattle.alta_counts.proofs.Cutting.{between_rises}
 use Rattle.alta_counts.proofs.Levels.{walked_steps}
 use Rattle.alta_counts.proofs.LevelWalks.{starts_lists, starts_sized, starts_unmoved, starts_left, sum_two}
@@ -31,16 +33,24 @@ level_reader-requires g c =
 pub level_readers-requires-clause-rising : goal.level_readers-requires-clause-rising
 level_readers-requires-clause-rising g c = All-tail (λ u. IsRising (whole_at c.args.tests.now u)) c.args.ends c.args.words.now c.requires.rising
 
-pub asked_by_kind-requires-clause-pair : goal.asked_by_kind-requires-clause-pair
-asked_by_kind-requires-clause-pair g c = λ yes.
-    omega (arith, c.requires.pair yes, starts_sized (there c.args.tests.now c.args.low c.args.high) c.args.words.now c.in_ok-words.words.items c.in_ok-words.ensures.start)
+pub by_kind-requires-clause-negated : goal.by_kind-requires-clause-negated
+by_kind-requires-clause-negated g c = subst (All IsSoundSingle) (sym c.new-negated.ensures.items) (All-nil IsSoundSingle)
 
-pub asked_by_kind-requires-clause-ends_unmoved : goal.asked_by_kind-requires-clause-ends_unmoved
-asked_by_kind-requires-clause-ends_unmoved g c = let f = c.in_ok-ends.ensures.start in f.unmoved ∙ ap (λ l. first_from l 0) (sym f.reads)
-
-pub asked_by_kind-requires-clause-words_unmoved : goal.asked_by_kind-requires-clause-words_unmoved
-asked_by_kind-requires-clause-words_unmoved g c =
-    starts_unmoved (there c.args.tests.now c.args.low c.args.high) c.args.words.now c.in_ok-words.words.items c.in_ok-words.ensures.start
+pub by_kind-requires-clause-stand : goal.by_kind-requires-clause-stand
+by_kind-requires-clause-stand g c =
+    let f = c.in_ok-ends.ensures.start in let ws = c.in_ok-words.words.items in
+    record {
+      start = refl;
+      none = ap (map single_list) c.new-negated.ensures.items;
+      pair = λ yes. omega (
+        arith,
+        c.requires.pair yes,
+        length-map ws single_list,
+        starts_sized (there c.args.tests.now c.args.low c.args.high) c.args.words.now ws c.in_ok-words.ensures.start,
+      );
+      end_is = f.unmoved ∙ ap (λ l. first_from l 0) (sym f.reads);
+      places_are = places_are single_list single_place ws (starts_unmoved (there c.args.tests.now c.args.low c.args.high) c.args.words.now ws c.in_ok-words.ensures.start);
+    }
 
 pub returns-clause-count : goal.returns-clause-count
 returns-clause-count g c =
@@ -54,14 +64,15 @@ pub returns-clause-steps : goal.returns-clause-steps
 returns-clause-steps g c =
     let lists = there c.args.tests.now c.args.low c.args.high in let ends = c.args.ends in let words = c.args.words.now in
     let start = subst (λ ls. IsAtStart single_list single_list single_place single_left (concat ls) c.in_ok-ends.ends) c.lists_between.ensures c.in_ok-ends.ensures.start in
-    walked_steps (levels_of c.args.tests.now) c.args.low c.args.high c.requires.ordered (ends ∷ words) c.args.steps.now c.asked_by_kind.new.steps
+    walked_steps (levels_of c.args.tests.now) c.args.low c.args.high c.requires.ordered (ends ∷ words) c.args.steps.now c.by_kind.new.steps
     (omega (
       arith,
       c.in_ok-ends.ensures.exact,
       ap length c.lists_between.ensures,
       length-map c.lists_between.result.now level_list,
       c.in_ok-words.ensures.exact,
-      c.asked_by_kind.ensures.steps,
+      c.by_kind.ensures.steps,
+      ap (sum_by single_left) c.new-negated.ensures.items,
       start.rest,
       starts_left lists words c.in_ok-words.words.items c.in_ok-words.ensures.start,
       sum_two lists (ends ∷ words),
@@ -73,14 +84,15 @@ pub returns-in_err-live-clause-steps : goal.returns-in_err-live-clause-steps
 returns-in_err-live-clause-steps g c =
     let lists = there c.args.tests.now c.args.low c.args.high in let ends = c.args.ends in let words = c.args.words.now in
     let start = subst (λ ls. IsAtStart single_list single_list single_place single_left (concat ls) c.in_ok-ends.ends) c.lists_between.ensures c.in_ok-ends.ensures.start in
-    walked_steps (levels_of c.args.tests.now) c.args.low c.args.high c.requires.ordered (ends ∷ words) c.args.steps.now c.asked_by_kind.new.steps
+    walked_steps (levels_of c.args.tests.now) c.args.low c.args.high c.requires.ordered (ends ∷ words) c.args.steps.now c.by_kind.new.steps
     (omega (
       arith,
       c.in_ok-ends.ensures.exact,
       ap length c.lists_between.ensures,
       length-map c.lists_between.result.now level_list,
       c.in_ok-words.ensures.exact,
-      c.asked_by_kind.ensures.steps,
+      c.by_kind.ensures.steps,
+      ap (sum_by single_left) c.new-negated.ensures.items,
       start.rest,
       starts_left lists words c.in_ok-words.words.items c.in_ok-words.ensures.start,
       sum_two lists (ends ∷ words),

@@ -1,4 +1,4 @@
-use Rattle.std.proofs.Common.{◌+◌, subst, ap, ◌∙◌, arith, rules}
+use Rattle.std.proofs.Common.{◌+◌, subst, ap, ◌∙◌, rules}
 use Rattle.std.specs.Prelude.{None}
 use Rattle.alta_compile.specs.View.{tree}
 use Rattle.alta_counts.specs.Live.{count_live}

@@ -6,7 +6,7 @@ use Rattle.std.specs.Vec.Iter.{into_iter_items}
 use Rattle.alta_search.specs.Words.{IsCoded}
 use Rattle.alta_search.specs.declared.single_reader.SingleReader.TheVariants.{Coded}
 use Rattle.alta_counts.proofs.CodedReaders.{after_front, nothing_left}
-use Rattle.alta_counts.proofs.led_walk.all_coded.Goals as goal
+use Rattle.alta_counts.proofs.walk.all_coded.Goals as goal
 
 pub coded-requires : goal.coded-requires
 coded-requires c =
