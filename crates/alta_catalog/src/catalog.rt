@@ -30,8 +30,8 @@ use crate::names::names_in;
 use crate::replacing::{PreparedLevels, ends_to_come, put_between};
 use crate::sharing::{share_rows, with_runs};
 use crate::starting::{ends_of, tally_levels};
-use alta_codec::{DocNumber, Loc, Text};
-use alta_content::{AllRows, DocRow, LevelRows};
+use alta_codec::{DocNumber, Loc};
+use alta_content::{AllRows, DocName, DocRow, LevelRows};
 use alta_machine::{MetaFault, cells};
 use alta_memlevel::MemLevel;
 use alta_names::NameTable;
@@ -244,7 +244,7 @@ impl Catalog {
             number: self.next,
             first: self.location,
             cells: count,
-            name: Text::of(alloc, name)?,
+            name: DocName::of(alloc, name)?,
         };
         self.memory.add(row, &cells)?;
         self.names.note(alloc, name, self.next)?;

@@ -4,6 +4,7 @@ pub mod Fronts
 pub mod Joining
 pub mod Laws
 pub mod Lists
+pub mod Names
 pub mod Packed
 pub mod Parts
 pub mod Rows

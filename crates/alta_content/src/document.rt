@@ -1,7 +1,8 @@
 // A document of a level.
 ghost use Rattle.std.specs.Prelude.{◌≡◌, IfOk};
 
-use alta_codec::{DocNumber, Loc, Text};
+use crate::name::DocName;
+use alta_codec::{DocNumber, Loc};
 use std::alloc::AllocError;
 
 /// A document of a level: where its cells stand, and how it is called.
@@ -14,11 +15,11 @@ pub struct DocRow {
     /// How many cells it has.
     pub cells: u64,
     /// Its name.
-    pub name: Text,
+    pub name: DocName,
 }
 
 impl DocRow {
-    /// An equal row, in memory of its own. Fails for want of memory alone.
+    /// An equal row, whose name shares the bytes of this one's.
     pub fn copy(&self) -> Result<DocRow, AllocError>
         ensures { IfOk result (λ copy. copy ≡ self.now) }
     {
@@ -26,7 +27,7 @@ impl DocRow {
             number: self.number,
             first: self.first,
             cells: self.cells,
-            name: self.name.copy()?,
+            name: self.name.share()?,
         })
     }
 }

@@ -1,5 +1,5 @@
 // The rows of a level.
-// Opening makes these rows once, and snapshots share them. A row takes seven times the bytes of its end, and has its name elsewhere:
+// Opening makes these rows once, and snapshots share them. A row takes five times the bytes of its end:
 // so a look-up of which document a location is in reads the ends. By the runs a list is tested without a look at each location,
 // where its first and last one stand in one run (`check_list` of alta_level).
 ghost use Rattle.std.specs.Prelude.{◌≡◌, ◌<◌, ◌↔◌, [], map, length, IsTrue, IfOk};
@@ -62,7 +62,7 @@ pub fn ends_of(alloc: Global, rows: &[DocRow]) -> Result<Vec<Loc>, AllocError>
     Ok(ends)
 }
 
-/// Equal rows, each with a name in memory of its own.
+/// Equal rows, whose names share the bytes of these.
 fn copies_of(alloc: Global, rows: &[DocRow]) -> Result<Vec<DocRow>, AllocError>
     ensures { IfOk result (λ copies. copies.items ≡ rows.now) }
 {
@@ -105,7 +105,7 @@ impl LevelRows {
         }
     }
 
-    /// Equal rows, each with a name in memory of its own. Fails for want of memory alone.
+    /// Equal rows, whose names share the bytes of these. Fails for want of memory alone.
     pub fn copy_rows(&self, alloc: Global) -> Result<Vec<DocRow>, AllocError>
         ensures { IfOk result (λ copies. copies.items ≡ self.now) }
     {

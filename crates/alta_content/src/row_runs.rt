@@ -1,5 +1,5 @@
 // Rows to which rows are added, in runs of which the full ones are shared.
-// So a search copies no more than the last run. A row that is copied costs some 600 instructions, and a run that is shared some 30.
+// So a search copies no more than the last run. A run that is shared costs some 30 instructions, and a row that is copied shares its name.
 // A flush copies all rows, since snapshots may share them.
 ghost use Rattle.std.specs.Prelude.{◌≡◌, ◌<◌, ◌∷◌, ◌++◌, [], map, length, slice_get, Some, IfOk, OnOk};
 ghost use Rattle.alta_codec.specs.Rising.{IsRising};
@@ -161,7 +161,7 @@ fn copy_run(alloc: Global, rows: &[DocRow]) -> Result<Rc<LevelRows>, AllocError>
     }
 }
 
-/// Adds equal rows at the end, each with a name in memory of its own.
+/// Adds equal rows at the end, whose names share the bytes of these.
 fn copy_rows(copies: &mut Vec<DocRow>, rows: &[DocRow]) -> Result<(), AllocError>
     ensures { OnOk result (copies.new.items ≡ copies.old.items ++ rows.now) }
 {

@@ -140,7 +140,7 @@ pub(crate) fn note_names(
     names.reserve(rows.len())?;
     for (i, row) in rows.iter().enumerate() {
         if !join(alloc, names, deleted, levels, &rows[..i], row)? {
-            return Err(LoadFault::Damaged(level.name_place(i)));
+            return Err(LoadFault::Damaged(level.name_place(alloc, i)?));
         }
     }
     Ok(())

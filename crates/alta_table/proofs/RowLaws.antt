@@ -9,7 +9,7 @@ use Rattle.std.proofs.lemmas.Bool.{cases_lt, ltb-true, lt-ltb, leb-true, le-leb,
 use Rattle.alta_codec.specs.Numbers.{number_bytes}
 use Rattle.alta_format.specs.Format.{AreEntries, Spells, entries_bytes}
 use Rattle.alta_codec.specs.declared.location.TheConstants.{TOP}
-use Rattle.alta_codec.specs.Name.{IsGraphic, is_graphic}
+use Rattle.alta_codec.specs.Name.{IsGraphic, IsName, is_graphic}
 use Rattle.alta_content.specs.declared.document.DocRow.{DocRow}
 use Rattle.alta_table.specs.Documents.{rises, are_cells, is_name_len, is_graphic_text, row_format, row_bytes, documents_table}
 use Rattle.alta_content.specs.Rows.{AreDocumentsBehind, Before, MayFollow, behind_row}
@@ -44,8 +44,11 @@ is_graphic_of : (name : List ℕ) → All IsGraphic name → IsTrue (is_graphic_
 is_graphic_of name h =
     list_all-from_AllPass is_graphic name (λ k d lt. let (low, high) = h k d lt in and_from _ _ (le-leb 33 (get_or name k d) low) (le-leb (get_or name k d) 126 high))
 
-pub graphic-IsUtf8 : (name : List ℕ) → IsTrue (is_graphic_text name) → IsUtf8 name
+graphic-IsUtf8 : (name : List ℕ) → IsTrue (is_graphic_text name) → IsUtf8 name
 graphic-IsUtf8 name h = IsUtf8-from_ascii name (λ i. ⊎_elim (λ lt. let (low, high) = graphic_is name h i 0 lt in omega (arith, high)) (λ past. rw (get_or_past name i 0 past) (omega arith)) (cases_lt i (length name)))
+
+pub named-IsUtf8 : (name : List ℕ) → IsName name → IsUtf8 name
+named-IsUtf8 name named = graphic-IsUtf8 name (is_graphic_of name named.2)
 
 -- the row's bytes with the rest behind them, field by field
 row_parts : (before : Before) (r : DocRow) (rest : List ℕ) → row_bytes before r ++ rest ≡ number_bytes (r.number - before.number) ++ (number_bytes (r.first - before.end) ++ (number_bytes r.cells ++ (length r.name ∷ (r.name ++ rest))))

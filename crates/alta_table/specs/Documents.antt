@@ -8,6 +8,7 @@ use Rattle.alta_codec.specs.Numbers.{number_bytes}
 use Rattle.alta_format.specs.Format.{Format, packed, byte, ends, number_field, text_field, Repeats, repeated, entries_bytes}
 use Rattle.alta_content.specs.declared.document.DocRow.{DocRow}
 use Rattle.alta_content.specs.Rows.{Before, behind_row, start}
+use Rattle.alta_table.specs.declared.documents.RowFields.{RowFields}
 
 -- ---- the rules, each of one field
 
@@ -44,6 +45,10 @@ documents_table = record { entry = row_format; step = behind_row; out = λ rows 
 -- so many rows, and nothing behind them
 abbrev pub documents_format : ℕ → Format (List DocRow)
 documents_format count = repeated documents_table count start []
+
+-- the row that its fields say
+abbrev pub row_from : RowFields → DocRow
+row_from fields = record { number = fields.number; first = fields.first; cells = fields.cells; name = fields.name.now }
 
 -- ---- the spelling
 

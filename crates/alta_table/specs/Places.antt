@@ -1,23 +1,27 @@
 -- Where names, streams and summaries stand on the disk, and what is kept of tables.
-use Rattle.std.specs.Prelude.{◌≡◌, ◌<◌, ◌≤◌, ◌^◌, ℕ, ◌+◌, ◌-◌, Option, Some, None, List, [], ◌∷◌, length, take, map, slice_index, slice_index_or}
+use Rattle.std.specs.Prelude.{◌≡◌, ◌<◌, ◌≤◌, ◌^◌, ℕ, ◌+◌, ◌-◌, Option, Some, None, List, [], length, take, map, slice_index, slice_index_or}
 use Rattle.std.specs.List.{sum_by}
 use Rattle.alta_codec.specs.declared.extent.Extent.{Extent}
 use Rattle.alta_content.specs.declared.document.DocRow.{DocRow}
+use Rattle.alta_content.specs.Names.{HoldsName, name_in}
 use Rattle.alta_table.specs.declared.parts.Parts.{Parts}
 use Rattle.alta_table.specs.declared.terms.HeldTerms.{HeldTerms}
 use Rattle.alta_table.specs.declared.walk.Walk.{Walk}
 use Rattle.alta_table.specs.Marks.{IsHeld, StandsBefore, rows_in}
 use Rattle.alta_table.specs.Walks.{behind_of, row_of}
-use Rattle.alta_table.specs.Documents.{row_bytes, documents_bytes}
-use Rattle.alta_content.specs.Rows.{Before, behind_row, start}
+use Rattle.alta_table.specs.Documents.{documents_bytes}
 use Rattle.alta_table.specs.Terms.{streams_of, summaries_of, data_of}
 use Rattle.alta_table.specs.Tables.{KeepRules, Tables, tables_bytes, total_of}
+
+-- the name of a row
+abbrev pub name_at : List DocRow → ℕ → List ℕ
+name_at rows row = slice_index_or (map (λ d. d.name) rows) row []
 
 -- the place of a document's name: its row ends with it
 abbrev pub name_place : Tables → ℕ → ℕ
 name_place tables row =
     tables.place + 32 + length (documents_bytes (take (row + 1) tables.documents))
-    - length (slice_index_or (map (λ d. d.name) tables.documents) row [])
+    - length (name_at tables.documents row)
 
 -- the place of a term's stream, behind the tables and the streams and summaries of the rows before
 abbrev pub stream_place : Tables → ℕ → ℕ
@@ -36,19 +40,17 @@ summary_extent tables row = record {
 
 -- ---- what is kept beside the rows
 
--- the places of the names of rows that begin at a place
-unfoldable pub name_places : ℕ → Before → List DocRow → List ℕ
-name_places from before [] = []
-name_places from before (row ∷ rows) =
-    (from + length (row_bytes before row) - length row.name) ∷ name_places (from + length (row_bytes before row))
-    (behind_row before row) rows
+-- a name ends a row of bytes: it stands in them behind its length, in front of what is left behind the row
+pub record EndsRow (bytes name behind : List ℕ) : Type 0 where
+  pub fits : length behind + length name < length bytes
+  pub holds : HoldsName bytes (length bytes - length behind - length name - 1)
+  pub same : name_in bytes (length bytes - length behind - length name - 1) ≡ name
 
 abbrev pub tables_in : Parts → Tables
 tables_in p = record { place = p.place; documents = p.documents.value; terms = rows_in p.terms }
 
--- the rows have the places of names beside them and keep the rules of a segment, which ends on the disk
+-- the rows keep the rules of a segment, which ends on the disk
 pub record AreParts (p : Parts) : Type 0 where
-  pub names_are : p.names.items ≡ name_places (p.place + 32) start p.documents.value
   pub held : IsHeld p.terms 0
   pub ends : p.end ≡ p.place + total_of p.documents.value (rows_in p.terms)
   pub keeps : KeepRules (total_of p.documents.value (rows_in p.terms)) p.documents.value (rows_in p.terms)

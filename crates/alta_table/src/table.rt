@@ -4,11 +4,12 @@ ghost use Rattle.alta_format.specs.Format.{AreBytes, part};
 ghost use Rattle.std.specs.List.{list_any, starts_with};
 ghost use Rattle.alta_table.specs.Answers.{Answers, IfDamaged, IsDamaged, IsFound};
 ghost use Rattle.alta_codec.specs.Rising.{IsRising};
-ghost use Rattle.alta_content.specs.Rows.{ends_of, start};
+ghost use Rattle.alta_content.specs.Rows.{AreDocuments, ends_of};
+ghost use Rattle.alta_table.specs.Documents.{documents_bytes};
 ghost use Rattle.alta_table.specs.Terms.{AreTerms, data_bytes, is_end, terms_format, terms_of};
 ghost use Rattle.alta_table.specs.Tables.{AreTables, IsDamage, KeepRules, Tables, read_head, tables_bytes, tables_of, term_part, total_of};
 ghost use Rattle.alta_table.specs.Marks.{IsHeld, rows_in};
-ghost use Rattle.alta_table.specs.Places.{name_place, name_places, row_at, stream_extent, summary_extent, tables_in};
+ghost use Rattle.alta_table.specs.Places.{name_at, name_place, row_at, stream_extent, summary_extent, tables_in};
 ghost use Rattle.alta_table.specs.Search.{IsPrefixRange};
 ghost use Rattle.alta_table.specs.declared.sizes.Head.{Head};
 
@@ -20,6 +21,7 @@ use crate::parts::Parts;
 use crate::search::{find_in, prefixed_in};
 use crate::sizes::Head;
 use crate::terms::{HeldTerms, read_terms};
+use crate::writers::put_documents;
 use alta_codec::Extent;
 use alta_content::{DocRow, LevelRows};
 use std::alloc::{AllocError, Global};
@@ -90,7 +92,6 @@ fn opened(alloc: Global, bytes: Vec<u8>, place: u64, total: u64) -> Result<Parts
     requires whole { (h : Head) → read_head bytes.items place total ≡ Ok h
         → length bytes.items ≡ 32 + h.document_bytes + h.term_bytes }
     ensures exact { Answers tables_in result (tables_of bytes.items place total) }
-    ensures names { IfOk result (λ p. p.names.items ≡ name_places (place + 32) start p.documents.value) }
     ensures held { IfOk result (λ p. IsHeld p.terms 0) }
     ensures end { IfOk result (λ p. p.end ≡ place + total) }
 {
@@ -106,14 +107,13 @@ fn opened(alloc: Global, bytes: Vec<u8>, place: u64, total: u64) -> Result<Parts
     if !has_end(&terms) {
         return Err(LevelFault::Damaged(place + 8));
     }
-    let Ok(rows) = shared(alloc, documents.rows) else {
+    let Ok(rows) = shared(alloc, documents) else {
         return Err(LevelFault::Memory);
     };
     Ok(Parts {
         place,
         end: place + total,
         documents: rows,
-        names: documents.names,
         terms,
     })
 }
@@ -146,6 +146,18 @@ fn copy_of(alloc: Global, bytes: &[u8], place: u64, total: u64) -> Result<OpenLe
         Ok(copy) => table_of(alloc, copy, place, total),
         Err(_) => Err(LevelFault::Memory),
     }
+}
+
+// How many bytes of the document part stand in front of a row's name.
+fn bytes_before(alloc: Global, rows: &[DocRow], row: usize) -> Result<usize, AllocError>
+    requires row { row < length rows.now }
+    requires documents { AreDocuments rows.now }
+    ensures { IfOk result (λ before. before + length (name_at rows.now row)
+        ≡ length (documents_bytes (take (row + 1) rows.now))) }
+{
+    let mut spelled = Vec::new(alloc);
+    put_documents(&mut spelled, &rows[..row + 1])?;
+    Ok(spelled.len() - rows[row].name.as_bytes().len())
 }
 
 impl OpenLevel {
@@ -212,12 +224,13 @@ impl OpenLevel {
         &self.parts.documents
     }
 
-    /// The place on the disk of a document's name.
-    pub fn name_place(&self, row: usize) -> u64
+    /// The place on the disk of a document's name. It spells the rows up to this one again. Fails for want of memory alone.
+    pub fn name_place(&self, alloc: Global, row: usize) -> Result<u64, AllocError>
         requires { row < length self.now.documents }
-        ensures { result ≡ name_place self.now row }
+        ensures { IfOk result (λ place. place ≡ name_place self.now row) }
     {
-        self.parts.names[row]
+        let before = bytes_before(alloc, self.documents(), row)?;
+        Ok(self.parts.place + 32 + before as u64)
     }
 
     /// How many terms there are.

@@ -40,7 +40,7 @@ fn put_row(out: &mut Vec<u8>, number: DocNumber, end: Loc, row: &DocRow) -> Resu
     requires { MayFollow (record { number = number; end = end }) row.now }
     ensures { PutsBytes (row_bytes (record { number = number; end = end }) row.now) out.old.items out.new.items result }
 {
-    let name = row.name.as_str().as_bytes();
+    let name = row.name.as_bytes();
     put_number(out, row.number - number)?;
     put_number(out, row.first - end)?;
     put_number(out, row.cells)?;

@@ -28,7 +28,7 @@ ghost use Rattle.alta_search.specs.Walked.{WalksOver};
 use crate::best::Top;
 use crate::scored_walk::best_scored;
 use crate::scoring::{may_lead, score_row, scorer};
-use alta_codec::{Steps, TOP};
+use alta_codec::{Steps, TOP, Text};
 use alta_compile::{Conjunction, Plan};
 use alta_content::{AllRows, DocRow};
 use alta_machine::{Scored, ScoredList, Uses};
@@ -85,14 +85,19 @@ fn all_answered<L: Ledger>(
 }
 
 /// Takes the document of a row in, with its score. Its name is copied only where it is kept.
-pub(crate) fn offer(best: &mut Best, row: &DocRow, score: u64) -> Result<(), AllocError>
+pub(crate) fn offer(
+    alloc: Global,
+    best: &mut Best,
+    row: &DocRow,
+    score: u64,
+) -> Result<(), AllocError>
     ensures count { best.new.count ≡ best.old.count }
     ensures best { OnOk result ((every : List Scored) → IsBest best.old.count every best.old.kept
         → IsBest best.old.count (every ++ record { number = row.now.number; name = row.now.name; score = score }
         ∷ []) best.new.kept) }
 {
     if best.has_place(row.number, score) {
-        let name = row.name.copy()?;
+        let name = Text::of(alloc, row.name.as_str())?;
         best.put(Scored {
             number: row.number,
             name,
@@ -121,7 +126,7 @@ fn best_of<L: Ledger>(
     let mut best = Best::new(alloc, count);
     for index in picks {
         let row = rows.row(*index);
-        offer(&mut best, row, score_row(scorer, row, steps))?;
+        offer(alloc, &mut best, row, score_row(scorer, row, steps))?;
     }
     Ok(best)
 }

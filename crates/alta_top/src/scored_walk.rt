@@ -35,6 +35,7 @@ fn is_gone(gone: &[Loc], end: Loc) -> bool
 
 /// Scores a row, and takes it in among the best if it has a score and its document was not deleted. It answers 1 then, and else 0.
 fn take_in<L: Ledger>(
+    alloc: Global,
     best: &mut Best,
     scorer: &mut Scorer<TestReader<'_>>,
     row: &DocRow,
@@ -55,7 +56,7 @@ fn take_in<L: Ledger>(
     if score == 0 || is_gone(gone, scorer.asked()) {
         return Ok(0);
     }
-    offer(best, row, score)?;
+    offer(alloc, best, row, score)?;
     Ok(1)
 }
 
@@ -89,6 +90,6 @@ pub(crate) fn best_scored<L: Ledger>(
         if !may_be_scored(scorer, row) {
             return Ok(Ranking { best, total });
         }
-        total += take_in(&mut best, scorer, row, gone, steps)?;
+        total += take_in(alloc, &mut best, scorer, row, gone, steps)?;
     }
 }

@@ -4,8 +4,8 @@ ghost use Rattle.alta_codec.specs.Rising.{IsRising};
 ghost use Rattle.alta_codec.specs.declared.location.TheConstants.{TOP};
 ghost use Rattle.alta_content.specs.Rows.{end_of, ends_of};
 
-use alta_codec::{Loc, TOP, Text};
-use alta_content::{AllRows, DocRow, LevelRows};
+use alta_codec::{Loc, TOP};
+use alta_content::{AllRows, DocName, DocRow, LevelRows};
 use std::alloc::{AllocError, Global};
 use std::rc::Rc;
 
@@ -22,21 +22,22 @@ fn fields(line: &str) -> Result<(u64, &str), AllocError>
     }
 }
 
-/// The row of a document whose cells begin at `first`. Documents past the last location count as want of memory.
+/// The row of a document whose cells begin at `first`. Documents past the last location, and names of 256 bytes or more, count as
+/// want of memory.
 fn row(alloc: Global, number: u64, first: Loc, line: &str) -> Result<DocRow, AllocError>
     ensures first { IfOk result (λ r. r.first ≡ first) }
     ensures some { IfOk result (λ r. 0 < r.cells) }
     ensures within { IfOk result (λ r. first + r.cells ≤ TOP) }
 {
     let (cells, name) = fields(line)?;
-    if first > TOP - cells {
+    if first > TOP - cells || name.len() >= 256 {
         return Err(AllocError);
     }
     Ok(DocRow {
         number,
         first,
         cells,
-        name: Text::of(alloc, name)?,
+        name: DocName::of(alloc, name)?,
     })
 }
 

@@ -11,5 +11,5 @@ invariant-loop l = record {
   reads : from_here documents_table l.count l.counter (record { number = l.number; end = l.end }) l.rows.items l.rest ≡ read (documents_format l.count) l.bytes;
   number : l.number < TOP;
   end : l.end < TOP;
-  places : AreRead l.place l.bytes l.rows.items l.names.items (record { number = l.number; end = l.end }) l.rest;
+  are : AreRead l.bytes l.rows.items (record { number = l.number; end = l.end }) l.rest;
 }
