@@ -1,3 +1,4 @@
+pub mod Besides
 pub mod Nexts
 pub mod Taken
 pub mod Takes

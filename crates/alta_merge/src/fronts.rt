@@ -1,8 +1,9 @@
 // The term that comes next of the lists that are left of each content, and what it takes of them.
-ghost use Rattle.std.specs.Prelude.{◌≡◌, ◌+◌, ◌<◌, ◌++◌, ℕ, List, [], length, flat_map, slice_index_or, slice_set, MatchOption, OnOk, OnErr};
+ghost use Rattle.std.specs.Prelude.{◌≡◌, ◌+◌, ◌<◌, ◌++◌, ℕ, List, [], false, length, flat_map, slice_index_or, slice_set, IsTrue, MatchOption, IfOk, OnOk, OnErr};
 ghost use Rattle.alta_content.specs.Fronts.{front_term};
 ghost use Rattle.alta_content.specs.Packed.{Appends, AreGaps};
 ghost use Rattle.alta_content.specs.Spans.{SpansRise};
+ghost use Rattle.alta_merge.specs.Besides.{IsMerged};
 ghost use Rattle.alta_merge.specs.Fronts.{AreNext, IsFirstLeft, NoneLeft, begins, behind, behind_next, front_of, if_some, next_list, next_term, whole_list};
 
 use alta_codec::Loc;
@@ -284,4 +285,25 @@ pub fn merge_next(
     put_next(made, rests, room, next, spans)?;
     skip_all(rests, next);
     Ok(())
+}
+
+/// Merges the term that comes next, as a [`crate::Job`] does, and answers whether there was one. Where there was none, all lists are as
+/// they were, and none is left.
+pub fn merge_first(
+    made: &mut TermLists,
+    rests: &mut [TermLists],
+    room: &mut Room,
+    spans: &[Span],
+) -> Result<bool, AllocError>
+    requires { SpansRise spans.now }
+    ensures merged { IfOk result (λ some. IsTrue some → IsMerged spans.now made.old rests.old made.new rests.new) }
+    ensures none { IfOk result (λ some. some ≡ false → NoneLeft rests.old (length rests.old)) }
+    ensures made { IfOk result (λ some. some ≡ false → made.new ≡ made.old) }
+    ensures rests { IfOk result (λ some. some ≡ false → rests.new ≡ rests.old) }
+{
+    let Some(next) = next_of(rests) else {
+        return Ok(false);
+    };
+    merge_next(made, rests, room, next, spans)?;
+    Ok(true)
 }

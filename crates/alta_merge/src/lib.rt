@@ -9,5 +9,6 @@ mod fronts;
 mod job;
 mod parts;
 
+pub use fronts::{Room, merge_first};
 pub use job::Job;
 pub use parts::may_join;
