@@ -103,7 +103,7 @@ module _ (level : Tables) (image : List ℕ) (are : AreBytes image) (stands : St
 
 -- ---- a fault of lists is one among those of the level
 
-same_stored : (row : TermRow) (bytes : List ℕ) (n at : ℕ) → data_of row ≤ n → stored_at row (take n bytes) at ≡ stored_at row bytes at
+pub same_stored : (row : TermRow) (bytes : List ℕ) (n at : ℕ) → data_of row ≤ n → stored_at row (take n bytes) at ≡ stored_at row bytes at
 same_stored row bytes n at le =
     let f : List ℕ → List ℕ → Stored = λ s t. record { stream = s; stream_place = at; summary = t; summary_place = at + row.stream; term = row.term; count = row.count } in
     let size : n ≡ row.stream + (n - row.stream) = omega (arith, le) in

@@ -4,7 +4,11 @@ pub mod JobLaws
 pub mod JoiningLaws
 pub mod KeptLaws
 pub mod LevelRuns
+pub mod MergeRuns
+pub mod MergeSteps
+pub mod MergedLaws
 pub mod OldestLaws
 pub mod OpenedLaws
+pub mod ReadRows
 pub mod RowSteps
 pub mod SpaceLaws

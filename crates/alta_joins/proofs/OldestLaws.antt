@@ -1,15 +1,15 @@
 -- Calls that read levels and join them.
-use Rattle.std.proofs.Common.{◌≡◌, true, ℕ, ◌<◌, ◌≤◌, List, [], ◌∷◌, ◌++◌, length, take, drop, refl, sym, subst, ap, ◌∙◌, arith, take-append-drop}
+use Rattle.std.proofs.Common.{◌≡◌, ⊎_elim, true, false, not, ℕ, ◌<◌, ◌≤◌, List, [], ◌∷◌, ◌++◌, length, map, take, drop, refl, sym, subst, ap, ap₂, ◌∙◌, arith, take-append-drop}
 use Rattle.std.specs.Prelude.{Ok, IsTrue}
 use Rattle.std.specs.Cmp.Lexicographic.{slice_cmp}
-use Rattle.std.specs.List.{All, flat_map, list_any}
+use Rattle.std.specs.List.{All, filter, flat_map, list_any}
 use Rattle.std.specs.Ordering.{match_ordering, nat_cmp}
 use Rattle.std.specs.declared.cmp.Ordering.{Ordering}
 use Rattle.std.specs.declared.cmp.Ordering.TheVariants.{Less, Equal, Greater}
-use Rattle.std.proofs.lemmas.Bool.{false≢true}
+use Rattle.std.proofs.lemmas.Bool.{cases_Bool, false≢true}
 use Rattle.std.proofs.lemmas.Grind.{flat_map-append}
-use Rattle.std.proofs.lemmas.List.{append-nil}
-use Rattle.std.proofs.lemmas.List.Elements.{All-nil, All-cons}
+use Rattle.std.proofs.lemmas.List.{append-nil, map-append}
+use Rattle.std.proofs.lemmas.List.Elements.{All-nil, All-cons, filter-append}
 use Rattle.alta_content.specs.Lists.{IsContent, is_end_list, terms_of}
 use Rattle.alta_content.specs.Parts.{MayJoin}
 use Rattle.alta_content.specs.Rows.{AreDocuments, AreDocumentsBehind, Before, behind_row, ends_among, live_rows, start}
@@ -17,7 +17,9 @@ use Rattle.alta_content.specs.declared.content.Content.{Content}
 use Rattle.alta_content.specs.TermList.{TermList}
 use Rattle.alta_content.specs.declared.document.DocRow.{DocRow}
 use Rattle.alta_meaning.specs.Opened.{table_rows}
-use Rattle.alta_content.specs.Joining.{rows_in, in_order, joined_in, terms_in, with_term, parts_of}
+use Rattle.alta_content.specs.Joining.{gathered, rows_in, in_order, joined_in, terms_in, with_term, parts_of}
+use Rattle.alta_content.specs.Spans.{deleted_spans, lists_outside, span_of}
+use Rattle.alta_content.specs.declared.spans.Span.{Span}
 use Rattle.alta_joins.proofs.KeptLaws.{live_may_join, live_same}
 use Rattle.alta_joins.proofs.SpaceLaws.{content_rows, contents_join}
 use Rattle.alta_joins.specs.Contents.{AreContentsOf, AreSegmentsOn, IsContentOf}
@@ -27,6 +29,7 @@ use Rattle.alta_joins.specs.Newest.{IsNewest}
 use Rattle.alta_memlevel.specs.Added.{Added, live_of}
 use Rattle.alta_memlevel.specs.Documents.{IsBefore, content_of}
 use Rattle.alta_memlevel.proofs.Behind.{may_join_behind}
+use Rattle.alta_memlevel.proofs.Live.{live_joined}
 use Rattle.alta_memlevel.proofs.One as one
 use Rattle.alta_merge.specs.Merging.{Merging}
 use Rattle.alta_table.specs.Tables.{Tables}
@@ -150,3 +153,55 @@ merged_rows levels contents gone newest are =
     ap (live_rows gone)
     (flat_map-append (λ (c : Content). c.documents) contents (newest ∷ []) ∙ ap (λ (rows : List DocRow). rows ++ rows_in (newest ∷ [])) (content_rows levels contents are)
     ∙ ap (λ (rows : List DocRow). table_rows levels ++ rows) (append-nil newest.documents))
+
+-- ---- a merge of lists
+
+-- rows that are left stay, and none of them is dead
+kept_twice : (dead : List ℕ) (rows : List DocRow) → live_rows dead (live_rows dead rows) ≡ live_rows dead rows
+kept_twice dead [] = refl
+kept_twice dead (r ∷ rs) =
+    ⊎_elim (λ (e : ends_among dead r ≡ true). rw e (kept_twice dead rs)) (λ (n : ends_among dead r ≡ false). rw n (rw n (ap (λ (l : List DocRow). r ∷ l) (kept_twice dead rs)))) (cases_Bool (ends_among dead r))
+
+none_dead : (dead : List ℕ) (rows : List DocRow) → filter (ends_among dead) (live_rows dead rows) ≡ []
+none_dead dead [] = refl
+none_dead dead (r ∷ rs) =
+    ⊎_elim (λ (e : ends_among dead r ≡ true). rw e (none_dead dead rs)) (λ (n : ends_among dead r ≡ false). rw n (rw n (none_dead dead rs))) (cases_Bool (ends_among dead r))
+
+module _ (levels : List Tables) (contents : List Content) (gone : List ℕ) (added : List Added) (newest : Content) (are : AreContentsOf levels contents) (is : IsNewest levels gone added newest) where
+  newest_rows : newest.documents ≡ live_rows gone (rows_in (content_of added ∷ []))
+  newest_rows = ap (λ (c : Content). c.documents) (is.content_is ∙ live_joined added gone is.are_added.space)
+
+  newest_left : live_rows gone newest.documents ≡ newest.documents
+  newest_left = ap (live_rows gone) newest_rows ∙ kept_twice gone (rows_in (content_of added ∷ [])) ∙ sym newest_rows
+
+  newest_dead : filter (ends_among gone) newest.documents ≡ []
+  newest_dead = ap (filter (ends_among gone)) newest_rows ∙ none_dead gone (rows_in (content_of added ∷ []))
+
+  all_rows : rows_in (contents ++ newest ∷ []) ≡ table_rows levels ++ newest.documents
+  all_rows =
+      flat_map-append (λ (c : Content). c.documents) contents (newest ∷ []) ∙ ap (λ (rows : List DocRow). rows ++ rows_in (newest ∷ [])) (content_rows levels contents are)
+      ∙ ap (λ (rows : List DocRow). table_rows levels ++ rows) (append-nil newest.documents)
+
+  rows_left : live_rows gone (rows_in (contents ++ newest ∷ [])) ≡ live_rows gone (table_rows levels) ++ newest.documents
+  rows_left =
+      ap (live_rows gone) all_rows ∙ filter-append (λ (row : DocRow). not (ends_among gone row)) (table_rows levels) newest.documents
+      ∙ ap (λ (rows : List DocRow). live_rows gone (table_rows levels) ++ rows) newest_left
+
+  all_spans : deleted_spans gone (rows_in (contents ++ newest ∷ [])) ≡ deleted_spans gone (table_rows levels)
+  all_spans =
+      ap (map span_of)
+      (ap (filter (ends_among gone)) all_rows ∙ filter-append (ends_among gone) (table_rows levels) newest.documents
+      ∙ ap (λ (rows : List DocRow). filter (ends_among gone) (table_rows levels) ++ rows) newest_dead ∙ append-nil (filter (ends_among gone) (table_rows levels)))
+
+  -- these rows and lists are the join
+  pub join_made : (content : Content) → content.documents ≡ live_rows gone (table_rows levels) ++ newest.documents
+      → content.lists ≡ lists_outside (deleted_spans gone (table_rows levels)) (gathered (parts_of contents ++ newest.lists ∷ [])) → content ≡ joined_in (contents ++ newest ∷ []) gone
+  join_made content documents lists =
+      let build : List DocRow → List TermList → Content = λ d l. record { documents = d; lists = l } in
+      ap₂ build (documents ∙ sym rows_left)
+      (lists ∙ ap (λ (spans : List Span). lists_outside spans (gathered (parts_of contents ++ newest.lists ∷ []))) (sym all_spans)
+      ∙ ap (λ (parts : List (List TermList)). lists_outside (deleted_spans gone (rows_in (contents ++ newest ∷ []))) (gathered parts)) (sym (map-append (λ (c : Content). c.lists) contents (newest ∷ []))))
+
+  -- the rows of the join, without the contents
+  pub rows_made : live_rows gone (table_rows levels) ++ newest.documents ≡ live_rows gone (table_rows levels ++ newest.documents)
+  rows_made = sym (filter-append (λ (row : DocRow). not (ends_among gone row)) (table_rows levels) newest.documents ∙ ap (λ (rows : List DocRow). live_rows gone (table_rows levels) ++ rows) newest_left)

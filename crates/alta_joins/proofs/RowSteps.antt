@@ -8,7 +8,7 @@ use Rattle.alta_content.specs.declared.document.DocRow.{DocRow}
 use Rattle.alta_level.proofs.Progress.{Progress}
 use Rattle.alta_table.specs.Places.{TermAt}
 use Rattle.alta_table.specs.Tables.{Tables}
-use Rattle.alta_table.specs.Terms.{HasEnd, counts_of, data_bytes, data_of, streams_of, summaries_of, terms_of}
+use Rattle.alta_table.specs.Terms.{HasEnd, counts_of, data_of, streams_of, summaries_of, terms_of}
 use Rattle.alta_table.specs.declared.term.TermRow.{TermRow}
 
 -- row i of these
@@ -20,12 +20,21 @@ row_of rows i = record {
   summary = get_or (summaries_of rows) i 0;
 }
 
-pub rows_from : (rows : List TermRow) (i : ℕ) → i < length rows → drop i rows ≡ row_of rows i ∷ drop (i + 1) rows
-rows_from [] i l = absurd (omega (arith, l))
-rows_from (row ∷ rows) zero l = refl
-rows_from (row ∷ rows) (suc i) l =
+-- the rows from one on, up to another
+pub rows_until : (rows : List TermRow) (i end : ℕ) → i < end → end ≤ length rows → drop i (take end rows) ≡ row_of rows i ∷ drop (i + 1) (take end rows)
+rows_until [] i end l le = absurd (omega (arith, l, le))
+rows_until (row ∷ rows) zero zero l le = absurd (omega (arith, l))
+rows_until (row ∷ rows) zero (suc end) l le = refl
+rows_until (row ∷ rows) (suc i) zero l le = absurd (omega (arith, l))
+rows_until (row ∷ rows) (suc i) (suc end) l le =
     let next : suc (i + 1) ≡ suc i + 1 = omega arith in
-    rows_from rows i (omega (arith, l)) ∙ ap (λ (k : ℕ). row_of rows i ∷ drop k (row ∷ rows)) next
+    rows_until rows i end (omega (arith, l)) (omega (arith, le)) ∙ ap (λ (k : ℕ). row_of rows i ∷ drop k (take (suc end) (row ∷ rows))) next
+
+-- the bytes of the lists up to a row, and those of its own
+pub data_next : (rows : List TermRow) (i : ℕ) → i < length rows → sum_by data_of (take (suc i) rows) ≡ sum_by data_of (take i rows) + (get_or (streams_of rows) i 0 + get_or (summaries_of rows) i 0)
+data_next [] i l = absurd (omega (arith, l))
+data_next (row ∷ rows) zero l = omega (arith, sum_by-cons data_of row [])
+data_next (row ∷ rows) (suc i) l = omega (arith, data_next rows i (omega (arith, l)), sum_by-cons data_of row (take (suc i) rows), sum_by-cons data_of row (take i rows))
 
 none : {X : Type 0} (xs : List X) → length xs ≡ 0 → xs ≡ []
 none [] e = refl
@@ -40,19 +49,10 @@ pub some_row : (rows : List TermRow) → HasEnd rows → 0 < length rows
 some_row [] has = absurd (true≢false (sym has))
 some_row (row ∷ rows) has = omega arith
 
--- the bytes of all lists end with those of the last
-pub last_list : (rows : List TermRow) (i : ℕ) → i + 1 ≡ length rows → data_bytes rows ≡ sum_by data_of (take i rows) + (get_or (streams_of rows) i 0 + get_or (summaries_of rows) i 0)
-last_list [] i e = absurd (omega (arith, e))
-last_list (row ∷ []) zero e = omega (arith, sum_by-cons data_of row [])
-last_list (row ∷ other ∷ rows) zero e = absurd (omega (arith, e))
-last_list (row ∷ []) (suc i) e = absurd (omega (arith, e))
-last_list (row ∷ other ∷ rows) (suc i) e =
-    omega (arith, sum_by-cons data_of row (other ∷ rows), sum_by-cons data_of row (take i (other ∷ rows)), last_list (other ∷ rows) i (omega (arith, e)))
-
-module _ (documents : List DocRow) (rows : List TermRow) (streams : List ℕ) (start : ℕ) (read : List TermList) (i : ℕ) (rest : List ℕ) (at : ℕ) (h : Progress documents rows streams start read (drop i rows) rest at) where
+module _ (documents : List DocRow) (rows streamed : List TermRow) (end : ℕ) (within : end ≤ length rows) (streams : List ℕ) (start : ℕ) (read : List TermList) (i : ℕ) (rest : List ℕ) (at : ℕ) (h : Progress documents streamed streams start read (drop i (take end rows)) rest at) where
   -- the next row is row i
-  pub next_row : i < length rows → Progress documents rows streams start read (row_of rows i ∷ drop (i + 1) rows) rest at
-  next_row l = subst (λ (left : List TermRow). Progress documents rows streams start read left rest at) (rows_from rows i l) h
+  pub next_row : i < end → Progress documents streamed streams start read (row_of rows i ∷ drop (i + 1) (take end rows)) rest at
+  next_row l = subst (λ (left : List TermRow). Progress documents streamed streams start read left rest at) (rows_until rows i end l within) h
 
 -- the row at which a cursor stands
 pub cursor_row : (at : TermAt) (level : Tables) (i : ℕ) → at.tables ≡ level → at.row ≡ i → row_of at.tables.terms at.row ≡ row_of level.terms i

@@ -9,10 +9,12 @@ ghost use Rattle.alta_meaning.specs.Broken.{IsBrokenIn};
 ghost use Rattle.alta_disk.specs.Answers.{IfDamaged, IsDamaged, IsFound};
 ghost use Rattle.alta_joins.specs.Contents.{IsContentOf, IsSegmentOn, StandsOn, list_at, row_at};
 ghost use Rattle.alta_joins.specs.Damages.{IsDamageOn};
+ghost use Rattle.alta_joins.specs.Reading.{rows_between};
 ghost use Rattle.alta_disk.specs.declared.fault.LoadFault.TheVariants.{Disk as DiskFault, Memory};
 ghost use Rattle.alta_level.specs.Damage.{AreListsOf, IsFaultInLists, data_place, stored_at};
 ghost use Rattle.alta_level.specs.Segments.{IsSegment};
 ghost use Rattle.alta_level.specs.Stored.{IsListFault, IsListOf, stored_of};
+ghost use Rattle.alta_table.specs.Places.{stream_place};
 ghost use Rattle.alta_table.specs.Tables.{tables_bytes};
 ghost use Rattle.alta_table.specs.Terms.{data_bytes};
 
@@ -23,8 +25,8 @@ use alta_level::{StoredList, check_list, segments_read_back};
 use alta_table::{LevelFault, OpenLevel, TermCursor};
 use std::alloc::Global;
 
-// A packed row of a term takes some sixteen bytes: the term's own, and three numbers.
-const ROW_BYTES: usize = 16;
+/// A packed row of a term takes some sixteen bytes: the term's own, and three numbers.
+pub const ROW_BYTES: usize = 16;
 
 /// Reads the content of a level. Its streams and summaries stand one behind the other, and are read by one read of the disk. The
 /// rows are those of the tables that were opened, and are copied. Each list is tested as [`alta_level::check_list`] tests it, and its
@@ -60,8 +62,8 @@ pub fn read_level<D: Disk>(
     content_in(alloc, level, bytes, extent.place)
 }
 
-// Where the streams and summaries of a level stand.
-fn data_extent(level: &OpenLevel) -> Result<Extent, LoadFault>
+/// Where the streams and summaries of a level stand.
+pub fn data_extent(level: &OpenLevel) -> Result<Extent, LoadFault>
     ensures place { IfOk result (λ extent. extent.place ≡ data_place level.now) }
     ensures bytes { IfOk result (λ extent. extent.bytes ≡ data_bytes level.now.terms) }
     ensures below { IfOk result (λ extent. extent.place + extent.bytes < 2 ^ 64) }
@@ -69,8 +71,20 @@ fn data_extent(level: &OpenLevel) -> Result<Extent, LoadFault>
 {
     // This call tells that there is a term.
     let _documents = level.documents();
-    let (first, _summary) = level.stream_place(0);
-    let (_stream, last) = level.stream_place(level.terms() - 1);
+    rows_extent(level, 0, level.terms())
+}
+
+/// Where the streams and summaries of the rows from one on stand, up to another.
+pub fn rows_extent(level: &OpenLevel, from: usize, to: usize) -> Result<Extent, LoadFault>
+    requires some { from < to }
+    requires within { to ≤ length level.now.terms }
+    ensures place { IfOk result (λ extent. extent.place ≡ stream_place level.now from) }
+    ensures bytes { IfOk result (λ extent. extent.bytes ≡ data_bytes (rows_between level.now from to)) }
+    ensures below { IfOk result (λ extent. extent.place + extent.bytes < 2 ^ 64) }
+    ensures only { IfErr result (λ fault. fault ≡ Memory) }
+{
+    let (first, _summary) = level.stream_place(from);
+    let (_stream, last) = level.stream_place(to - 1);
     // A level lies within its disk, so there is always such an end.
     let Some(end) = last.place.checked_add(last.bytes) else {
         return Err(LoadFault::Memory);
@@ -97,7 +111,8 @@ fn content_in(
         (data_place level.now)) }
     ensures lean { result ≢ Err DiskFault }
 {
-    let lists = match lists_in(alloc, level, bytes, place) {
+    let _documents = level.documents();
+    let lists = match lists_in(alloc, level, 0, level.terms(), bytes, place) {
         Ok(lists) => lists,
         Err(fault) => return Err(fault),
     };
@@ -108,27 +123,32 @@ fn content_in(
     })
 }
 
-// The lists of all rows, whose streams and summaries stand one behind the other. No list takes memory of its own: their streams are
-// copied into room for all, and the memory of the bytes is given back as they are read.
-fn lists_in(
+/// The lists of the rows from one on, up to another, whose streams and summaries stand one behind the other in these bytes. No list
+/// takes memory of its own: their streams are copied into room for all, and the memory of the bytes is given back as they are read.
+pub fn lists_in(
     alloc: Global,
     level: &OpenLevel,
+    from: usize,
+    to: usize,
     bytes: Vec<u8>,
     place: u64,
 ) -> Result<TermLists, LoadFault>
-    requires whole { data_bytes level.now.terms ≤ length bytes.items }
+    requires some { from < to }
+    requires within { to ≤ length level.now.terms }
+    requires whole { data_bytes (rows_between level.now from to) ≤ length bytes.items }
     requires below { place + length bytes.items < 2 ^ 64 }
-    ensures found { IfOk result (AreListsOf level.now.documents level.now.terms bytes.items place) }
-    ensures first { IfDamaged result (IsFaultInLists level.now.documents level.now.terms bytes.items place) }
+    ensures found { IfOk result (AreListsOf level.now.documents (rows_between level.now from to) bytes.items place) }
+    ensures first { IfDamaged result (IsFaultInLists level.now.documents (rows_between level.now from to) bytes.items
+        place) }
     ensures lean { result ≢ Err DiskFault }
 {
-    let rows = level.terms().saturating_mul(ROW_BYTES);
+    let rows = (to - from).saturating_mul(ROW_BYTES);
     let mut lists = TermLists::with_room(alloc, rows, bytes.len())?;
     let mut rest = bytes;
     let mut front = 0;
     let mut at = place;
-    let mut cursor = level.first();
-    for row in 0..level.terms() {
+    let mut cursor = level.at(from);
+    for row in from..to {
         let (stream, summary) = cursor.stream_place();
         let len = stream.bytes + summary.bytes;
         let (_passed, here) = rest.split_at(front);

@@ -1,11 +1,13 @@
-//! Levels read whole from the disk, and joined to one content: at once, or in slices.
+//! Levels read from the disk, and joined to one content: window by window at once, or read whole and in slices.
 #![tactic(auto)]
 
 mod joining;
 mod laws;
 mod level;
 mod levels;
+mod merging;
 mod oldest;
+mod window;
 
 pub use alta_merge::Job;
 pub use joining::{begin_job, finish_job, join_levels, run_job, step_job};
