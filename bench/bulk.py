@@ -38,9 +38,8 @@ from typing import NamedTuple
 TOP = os.path.dirname(os.path.dirname(os.path.abspath(__file__)))
 sys.path[:0] = [os.path.join(TOP, "tests"), os.path.join(TOP, "client")]
 
-from buncocedar.fileformat import LEVELS
-from buncocedar.imports.engine import Levels
 from model.reading import HEAD, read_roots
+from support import with_merges_of_levels
 
 LEAST = 400  # bytes of a document that is cut from a file
 WORD = "version"
@@ -165,17 +164,6 @@ def with_merges(lines, each, share):
             yield b"merge\n"
             before += since
             since = 0
-
-
-def with_merges_of_levels(lines):
-    """The lines, with a merge wherever there are as many levels as there may be, and one more in the journal."""
-    levels = Levels(0)
-    for line in lines:
-        yield line
-        levels.put(len(line) - 1)
-        if levels.count > LEVELS:
-            yield b"merge\n"
-            levels = Levels(1)
 
 
 # ---- the indexes

@@ -18,12 +18,7 @@ import tempfile
 from itertools import accumulate
 
 from memory_limits import LETTERS, MIB, NO_MEMORY, Index, levels_of
-
-# It lets the others find the client of the checkout.
-from support import TOP  # isort: skip
-
-from buncocedar.fileformat import LEVELS
-from buncocedar.imports.engine import Levels
+from support import TOP, with_merges_of_levels
 
 WORDS = 20_000
 SENTENCES = 4_000
@@ -50,17 +45,6 @@ def documents(size):
         yield line
 
 
-def with_merges(lines):
-    """The lines, with a `merge` wherever there are as many levels as there may be, and one more in the journal."""
-    levels = Levels(0)
-    for line in lines:
-        yield line
-        levels.put(len(line) - 1)
-        if levels.count > LEVELS:
-            yield b"merge\n"
-            levels = Levels(1)
-
-
 def main():
     parser = argparse.ArgumentParser(description=__doc__, formatter_class=argparse.RawDescriptionHelpFormatter)
     parser.add_argument("--program", default=os.path.join(TOP, "crates", "alta_cli", "out", "alta_cli"))
@@ -70,7 +54,7 @@ def main():
     place = "/dev/shm" if os.access("/dev/shm", os.W_OK) else None
     with tempfile.TemporaryDirectory(dir=place) as folder:
         index = Index(os.path.abspath(options.program), os.path.join(folder, "large.alta"), options.share)
-        index.run(with_merges(documents(options.megabytes * 1_000_000)))
+        index.run(with_merges_of_levels(documents(options.megabytes * 1_000_000)))
         levels = levels_of(index.path)
         tables = sum(tables for _, tables in levels)
         reply = index.run([b"stats\n"])[1]

@@ -17,6 +17,9 @@ sys.path.insert(0, CLIENT)
 # What a shell starts in the background takes no interrupt, and nothing that it starts does.
 signal.signal(signal.SIGINT, signal.default_int_handler)
 
+from buncocedar.fileformat import LEVELS  # noqa: E402
+from buncocedar.imports.engine import Levels  # noqa: E402
+
 
 def until(done):
     """Waits until this is so. The tests rest on what happened, and never on how long it took."""
@@ -25,6 +28,17 @@ def until(done):
         if time.monotonic() > end:
             raise AssertionError("it does not come")
         time.sleep(0.01)
+
+
+def with_merges_of_levels(lines):
+    """Lines of bytes, with a `merge` wherever there are as many levels as there may be, and one more in the journal."""
+    levels = Levels(0)
+    for line in lines:
+        yield line
+        levels.put(len(line) - 1)
+        if levels.count > LEVELS:
+            yield b"merge\n"
+            levels = Levels(1)
 
 
 def run_lines(program, path, lines):
