@@ -2,7 +2,8 @@
 use Rattle.std.proofs.Common.{◌≡◌, ℕ, ◌+◌, ◌<◌, ◌≤◌, List, [], ◌++◌, length, take, drop, get_or, refl, subst, ap, ◌∙◌, arith}
 use Rattle.std.proofs.lemmas.List.{take-take}
 use Rattle.std.proofs.lemmas.List.Sums.{sum_by-append}
-use Rattle.std.specs.Prelude.{Ok}
+use Rattle.std.specs.Prelude.{Result, Ok, Err}
+use Rattle.alta_codec.specs.Faults.{Rose}
 use Rattle.alta_content.specs.TermList.{TermList}
 use Rattle.alta_content.specs.declared.content.Content.{Content}
 use Rattle.alta_content.specs.declared.spans.Span.{Span}
@@ -11,8 +12,12 @@ use Rattle.alta_disk.specs.Disk.{DiskState, IsLawful}
 use Rattle.alta_joins.proofs.LevelRuns.{told_none}
 use Rattle.alta_joins.proofs.MergeSteps.{left_front, left_more, level_at}
 use Rattle.alta_joins.proofs.ReadRows.{fault_behind, read_none, read_on, read_then, rest_size, rows_split}
-use Rattle.alta_joins.specs.Damages.{Tells}
-use Rattle.alta_joins.specs.Reading.{AreMergedTo, AreRead, IsFaultFrom, left_of, rows_between}
+use Rattle.alta_disk.specs.declared.fault.LoadFault.{LoadFault}
+use Rattle.alta_disk.specs.declared.fault.LoadFault.TheVariants as faults
+use Rattle.alta_joins.proofs.FaultLaws.{fault_goes}
+use Rattle.alta_joins.specs.Damages.{FindsDamage, Tells}
+use Rattle.alta_meaning.specs.Broken.{IsBrokenAmong}
+use Rattle.alta_joins.specs.Reading.{AreMergedTo, AreRead, Fills, IsFaultFrom, ReadsOn, left_of, rows_between}
 use Rattle.alta_meaning.proofs.DiskReads.{reads_none, reads_then, reads_within}
 use Rattle.alta_table.specs.Tables.{Tables}
 use Rattle.alta_table.specs.Terms.{data_bytes, data_of}
@@ -174,3 +179,59 @@ refill_cost tells levels rows i many inside old mid now first second =
     let front = left_of (take i levels) rows in
     reads_within tells (own + front) (left_of levels rows) old now (omega (arith, left_more levels rows i many inside, left_front levels rows (i + 1)))
     (reads_then tells own front (own + front) old mid now refl first second)
+
+-- ---- what calls that read on promise
+
+rose_on : (m n k : ℕ) → m ≤ n → Rose n k → Rose m k
+rose_on m n k le rose = grind (arith, le, rose)
+
+cause_goes : (X Y : Type 0) (e : LoadFault) (P : Type 0) → (◌≡◌ {A = Result X LoadFault} (Err e) (Err faults.Disk) → P) → ◌≡◌ {A = Result Y LoadFault} (Err e) (Err faults.Disk) → P
+cause_goes X Y e P h is = let same : e ≡ faults.Disk = cc in h (ap (λ (f : LoadFault). Err f) same)
+
+-- between two moments levels were read on
+abbrev pub WentOn : Type 0 → List Tables → List ℕ → List ℕ → DiskState → DiskState → Type 0
+WentOn tells levels rows later old mid = (n : ℕ) × Reads tells n old mid × (n + left_of levels later ≤ left_of levels rows)
+
+module _ (tells : Type 0) (levels : List Tables) (rows later : List ℕ) (old mid : DiskState) (on : WentOn tells levels rows later old mid) where
+  went_all : Reads tells (left_of levels rows) old mid
+  went_all = let fewer = on.2 in reads_within tells on.0 (left_of levels rows) old mid (omega (arith, fewer)) on.1
+
+  -- it is done
+  pub reads_done : (X : Type 0) (x : X) → ReadsOn tells levels rows later old mid (Ok x)
+  reads_done X x = record { cost = on; damage = λ told. tt; broken = λ told. tt; retrieves = record { reads = went_all; cause = λ is. cc } }
+
+  -- memory is wanting
+  pub reads_wanting : (X : Type 0) (last : List ℕ) → ReadsOn {X = X} tells levels rows last old mid (Err faults.Memory)
+  reads_wanting X last = record {
+    cost = tt;
+    damage = λ told. record { undamaged = λ contents are. tt; first = tt; damaged = λ p damage. tt };
+    broken = λ told. tt;
+    retrieves = record { reads = went_all; cause = λ is. cc };
+  }
+
+  -- the next call fails
+  pub reads_failed : (X Y : Type 0) (e : LoadFault) (last : List ℕ) (now : DiskState) → ReadsOn {X = X} tells levels later last mid now (Err e) → ReadsOn {X = Y} tells levels rows last old now (Err e)
+  reads_failed X Y e last now h =
+      let fewer = on.2 in
+      let first = on.1 in
+      record {
+        cost = tt;
+        damage = λ told. subst (λ (image : List ℕ). FindsDamage {X = Unit {0}} image levels (Err e)) (first.content told) (h.damage told);
+        broken = λ told.
+            fault_goes X Y e (IsBrokenAmong levels mid.content) (IsBrokenAmong levels old.content) (λ p broken. subst (λ (image : List ℕ). IsBrokenAmong levels image p) (first.content told) broken) (h.broken told);
+        retrieves = record {
+          reads = reads_within tells (on.0 + left_of levels later) (left_of levels rows) old now fewer
+              (reads_then tells on.0 (left_of levels later) (on.0 + left_of levels later) old mid now refl first h.retrieves.reads);
+          cause = λ is. rose_on old.faults mid.faults now.faults first.costs.faults (cause_goes X Y e (Rose mid.faults now.faults) h.retrieves.cause is);
+        };
+      }
+
+pub went_none : (tells : Type 0) (levels : List Tables) (rows : List ℕ) (s : DiskState) → IsLawful tells s → WentOn tells levels rows rows s s
+went_none tells levels rows s lawful = (0, reads_none tells s lawful, omega arith)
+
+-- nothing was taken to hand
+pub fills_none : (tells : Type 0) (levels : List Tables) (rows : List ℕ) (hand : List (List TermList)) (s : DiskState) → IsLawful tells s → Fills tells levels rows hand rows hand s s (Ok (tt {0}))
+fills_none tells levels rows hand s lawful = record {
+  merged = λ image newest spans made m. m;
+  reads = reads_done tells levels rows rows s s (went_none tells levels rows s lawful) (Unit {0}) tt;
+}

@@ -1,12 +1,18 @@
 -- Levels whose lists are read window by window, and what is merged of them meanwhile.
-use Rattle.std.specs.Prelude.{◌≡◌, ℕ, ◌+◌, ◌<◌, ◌≤◌, ◌^◌, List, [], ◌∷◌, ◌++◌, length, take, drop, map, slice_index, slice_index_or, slice_set}
+use Rattle.std.specs.Prelude.{Result, Err, IfErr, OnOk, ◌≡◌, ℕ, ◌+◌, ◌<◌, ◌≤◌, ◌^◌, List, [], ◌∷◌, ◌++◌, length, take, drop, map, slice_index, slice_index_or, slice_set}
 use Rattle.std.specs.List.{All}
 use Rattle.alta_content.specs.Joining.{gathered}
 use Rattle.alta_content.specs.Lists.{TermsRise}
 use Rattle.alta_content.specs.Spans.{lists_outside}
 use Rattle.alta_content.specs.TermList.{TermList}
 use Rattle.alta_content.specs.declared.spans.Span.{Span}
+use Rattle.alta_disk.specs.Answers.{IfDamaged}
+use Rattle.alta_disk.specs.Calls.{Reads, Retrieves}
+use Rattle.alta_disk.specs.Disk.{DiskState}
 use Rattle.alta_disk.specs.Parts.{part}
+use Rattle.alta_disk.specs.declared.fault.LoadFault.{LoadFault}
+use Rattle.alta_joins.specs.Damages.{FindsDamage}
+use Rattle.alta_meaning.specs.Broken.{IsBrokenAmong}
 use Rattle.alta_joins.specs.Contents.{data_size}
 use Rattle.alta_level.specs.Damage.{AreListsOf, IsFaultInLists, data_place}
 use Rattle.alta_merge.specs.Besides.{beside}
@@ -103,3 +109,22 @@ pub record AreAllMerged (tells : Type 0) (image : List ℕ) (newest : List TermL
   pub read : List (List TermList)
   pub are : AreReadTo tells image newest levels (sizes_of levels) read
   pub same : All TermsRise read → made ≡ lists_outside spans (gathered read)
+
+-- ---- calls
+
+-- What a call that reads on in levels costs, and why it fails: it reads what is left at most, and finds the first damage of all levels.
+pub record ReadsOn {X : Type 0} (tells : Type 0) (levels : List Tables) (rows later : List ℕ) (old new : DiskState)
+    (result : Result X LoadFault) : Type 0 where
+  pub cost : OnOk result ((n : ℕ) × Reads tells n old new × (n + left_of levels later ≤ left_of levels rows))
+  pub damage : tells → IfErr result (λ fault. FindsDamage {X = Unit {0}} old.content levels (Err fault))
+  pub broken : tells → IfDamaged result (IsBrokenAmong levels old.content)
+  pub retrieves : Retrieves tells (left_of levels rows) old new result
+
+-- More lists of levels were taken to hand: what was merged stays so, whatever it is.
+pub record Fills {X : Type 0} (tells : Type 0) (levels : List Tables) (rows : List ℕ) (hand : List (List TermList))
+    (later : List ℕ) (more : List (List TermList)) (old new : DiskState) (result : Result X LoadFault)
+    : Type 0 where
+  pub merged : (image : List ℕ) (newest : List TermList) (spans : List Span) (made : List TermList)
+      → AreMergedTo tells image old.content newest spans levels rows hand made
+      → OnOk result (AreMergedTo tells image new.content newest spans levels later more made)
+  pub reads : ReadsOn tells levels rows later old new result

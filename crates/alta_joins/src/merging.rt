@@ -7,11 +7,11 @@ ghost use Rattle.alta_content.specs.TermList.{TermList};
 ghost use Rattle.alta_content.specs.declared.content.Content.{Content};
 ghost use Rattle.alta_content.specs.declared.spans.Span.{Span};
 ghost use Rattle.alta_disk.specs.Answers.{IfDamaged};
-ghost use Rattle.alta_disk.specs.Calls.{Reads, Retrieves};
+ghost use Rattle.alta_disk.specs.Calls.{Retrieves};
 ghost use Rattle.alta_disk.specs.Disk.{DiskState};
 ghost use Rattle.alta_joins.specs.Contents.{StandsOn};
 ghost use Rattle.alta_joins.specs.Damages.{FindsDamage, Tells};
-ghost use Rattle.alta_joins.specs.Reading.{AreAllMerged, AreFilled, AreMergedTo, AreReadTo, IsOpen, IsRefilled};
+ghost use Rattle.alta_joins.specs.Reading.{AreAllMerged, AreFilled, AreMergedTo, AreReadTo, Fills, IsOpen, IsRefilled, ReadsOn};
 ghost use Rattle.alta_joins.specs.Reading.{left_of, sizes_of};
 ghost use Rattle.alta_meaning.specs.Broken.{IsBrokenAmong};
 ghost use Rattle.alta_merge.specs.Fronts.{NoneLeft};
@@ -72,17 +72,9 @@ fn refill<D: Disk>(
     requires within { i < length levels.now }
     requires left { slice_index rows.old i < slice_index (sizes_of levels.now) i }
     requires none { slice_index_or hand.old i [] ≡ [] }
-    ensures merged { (image : List ℕ) → (newest : List TermList) → (spans : List Span) → (made : List TermList)
-        → AreMergedTo D.tells image (D.state disk.old).content newest spans levels.now rows.old hand.old made
-        → OnOk result (AreMergedTo D.tells image (D.state disk.new).content newest spans levels.now rows.new hand.new
-        made) }
+    ensures fills { Fills D.tells levels.now rows.old hand.old rows.new hand.new (D.state disk.old) (D.state disk.new)
+        result }
     ensures filled { OnOk result (IsRefilled i rows.old hand.old rows.new hand.new) }
-    ensures cost { OnOk result ((n : ℕ) × Reads D.tells n (D.state disk.old) (D.state disk.new)
-        × (n + left_of levels.now rows.new ≤ left_of levels.now rows.old)) }
-    ensures damage { D.tells → IfErr result (λ fault. FindsDamage {X = Unit {0}} (D.state disk.old).content levels.now
-        (Err fault)) }
-    ensures broken { D.tells → IfDamaged result (IsBrokenAmong levels.now (D.state disk.old).content) }
-    ensures retrieves { Retrieves D.tells (left_of levels.now rows.old) (D.state disk.old) (D.state disk.new) result }
 {
     segments_read_back();
     match read_window(alloc, disk, &levels[i], rows[i]) {
@@ -114,18 +106,10 @@ fn fill_one<D: Disk>(
     requires merged { (image : List ℕ) × (newest : List TermList) × (spans : List Span) × (made : List TermList)
         × AreMergedTo D.tells image (D.state disk.old).content newest spans levels.now rows.old hand.old made }
     requires within { i < length levels.now }
-    ensures merged { (image : List ℕ) → (newest : List TermList) → (spans : List Span) → (made : List TermList)
-        → AreMergedTo D.tells image (D.state disk.old).content newest spans levels.now rows.old hand.old made
-        → OnOk result (AreMergedTo D.tells image (D.state disk.new).content newest spans levels.now rows.new hand.new
-        made) }
+    ensures fills { Fills D.tells levels.now rows.old hand.old rows.new hand.new (D.state disk.old) (D.state disk.new)
+        result }
     ensures filled { AreFilled i levels.now rows.old hand.old
         → OnOk result (AreFilled (i + 1) levels.now rows.new hand.new) }
-    ensures cost { OnOk result ((n : ℕ) × Reads D.tells n (D.state disk.old) (D.state disk.new)
-        × (n + left_of levels.now rows.new ≤ left_of levels.now rows.old)) }
-    ensures damage { D.tells → IfErr result (λ fault. FindsDamage {X = Unit {0}} (D.state disk.old).content levels.now
-        (Err fault)) }
-    ensures broken { D.tells → IfDamaged result (IsBrokenAmong levels.now (D.state disk.old).content) }
-    ensures retrieves { Retrieves D.tells (left_of levels.now rows.old) (D.state disk.old) (D.state disk.new) result }
 {
     if hand[i].first().is_some() {
         return Ok(());
@@ -148,17 +132,9 @@ fn fill<D: Disk>(
     requires opened { All IsOpen levels.now }
     requires merged { (image : List ℕ) × (newest : List TermList) × (spans : List Span) × (made : List TermList)
         × AreMergedTo D.tells image (D.state disk.old).content newest spans levels.now rows.old hand.old made }
-    ensures merged { (image : List ℕ) → (newest : List TermList) → (spans : List Span) → (made : List TermList)
-        → AreMergedTo D.tells image (D.state disk.old).content newest spans levels.now rows.old hand.old made
-        → OnOk result (AreMergedTo D.tells image (D.state disk.new).content newest spans levels.now rows.new hand.new
-        made) }
+    ensures fills { Fills D.tells levels.now rows.old hand.old rows.new hand.new (D.state disk.old) (D.state disk.new)
+        result }
     ensures filled { OnOk result (AreFilled (length levels.now) levels.now rows.new hand.new) }
-    ensures cost { OnOk result ((n : ℕ) × Reads D.tells n (D.state disk.old) (D.state disk.new)
-        × (n + left_of levels.now rows.new ≤ left_of levels.now rows.old)) }
-    ensures damage { D.tells → IfErr result (λ fault. FindsDamage {X = Unit {0}} (D.state disk.old).content levels.now
-        (Err fault)) }
-    ensures broken { D.tells → IfDamaged result (IsBrokenAmong levels.now (D.state disk.old).content) }
-    ensures retrieves { Retrieves D.tells (left_of levels.now rows.old) (D.state disk.old) (D.state disk.new) result }
 {
     for i in 0..levels.len() {
         match fill_one(alloc, disk, levels, rows, hand, i) {
@@ -192,12 +168,7 @@ fn merge_next<D: Disk>(
     ensures none { IfOk result (λ some. some ≡ false → NoneLeft hand.new (length hand.new)) }
     ensures filled { IfOk result (λ some. some ≡ false → AreFilled (length levels.now) levels.now rows.new
         hand.new) }
-    ensures cost { OnOk result ((n : ℕ) × Reads D.tells n (D.state disk.old) (D.state disk.new)
-        × (n + left_of levels.now rows.new ≤ left_of levels.now rows.old)) }
-    ensures damage { D.tells → IfErr result (λ fault. FindsDamage {X = Unit {0}} (D.state disk.old).content levels.now
-        (Err fault)) }
-    ensures broken { D.tells → IfDamaged result (IsBrokenAmong levels.now (D.state disk.old).content) }
-    ensures retrieves { Retrieves D.tells (left_of levels.now rows.old) (D.state disk.old) (D.state disk.new) result }
+    ensures reads { ReadsOn D.tells levels.now rows.old rows.new (D.state disk.old) (D.state disk.new) result }
 {
     match fill(alloc, disk, levels, rows, hand) {
         Ok(()) => {}
@@ -233,10 +204,7 @@ pub fn merge_lists<D: Disk>(
     ensures merged { (image : List ℕ) → (newest : List TermList)
         → AreMergedTo D.tells image (D.state disk.old).content newest spans.now levels.now rows.old hand.old made.old
         → OnOk result (AreAllMerged D.tells image newest spans.now levels.now made.new) }
-    ensures damage { D.tells → IfErr result (λ fault. FindsDamage {X = Unit {0}} (D.state disk.old).content levels.now
-        (Err fault)) }
-    ensures broken { D.tells → IfDamaged result (IsBrokenAmong levels.now (D.state disk.old).content) }
-    ensures retrieves { Retrieves D.tells (left_of levels.now rows.old) (D.state disk.old) (D.state disk.new) result }
+    ensures reads { ReadsOn D.tells levels.now rows.old rows.new (D.state disk.old) (D.state disk.new) result }
 {
     let mut room = Room {
         packed: PackedLocations::made_with(alloc),

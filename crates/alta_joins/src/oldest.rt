@@ -1,5 +1,5 @@
 // The two oldest levels, whose join begins, and all levels, which are merged.
-ghost use Rattle.std.specs.Prelude.{◌≡◌, ◌≤◌, ◌++◌, ◌∷◌, [], List, All, IfErr, IfOk, length, map, take};
+ghost use Rattle.std.specs.Prelude.{◌≡◌, ◌≤◌, ◌++◌, ◌∷◌, [], List, All, IfOk, length, map, take};
 ghost use Rattle.std.specs.List.{sum_by};
 ghost use Rattle.alta_content.specs.Parts.{IsPart};
 ghost use Rattle.alta_content.specs.Spans.{SpansRise, deleted_spans};
@@ -15,7 +15,6 @@ ghost use Rattle.alta_joins.specs.Damages.{FindsDamage};
 ghost use Rattle.alta_joins.specs.Jobs.{AreJoinedOn, IsBegun, IsJoining};
 ghost use Rattle.alta_joins.specs.Newest.{IsNewest};
 ghost use Rattle.alta_joins.specs.Reading.{IsOpen};
-ghost use Rattle.alta_disk.specs.declared.fault.LoadFault.TheVariants.{Memory};
 ghost use Rattle.alta_table.specs.Tables.{Tables};
 ghost use Rattle.alta_memlevel.specs.Added.{Added};
 ghost use Rattle.alta_content.specs.Joining.{joined_in};
@@ -31,7 +30,7 @@ use alta_disk::{Disk, LoadFault};
 use alta_level::segments_read_back;
 use alta_merge::Job;
 use alta_table::OpenLevel;
-use std::alloc::Global;
+use std::alloc::{AllocError, Global};
 use std::default::MadeWith;
 
 /// Reads the two oldest of these levels, and begins their join without what is gone.
@@ -91,7 +90,7 @@ pub fn merge_levels<D: Disk>(
     segments_read_back();
     let begun = match begin(alloc, levels, newest, gone) {
         Ok(begun) => begun,
-        Err(fault) => return Err(fault),
+        Err(_) => return Err(LoadFault::Memory),
     };
     let mut rows = begun.rows;
     let mut hand = begun.hand;
@@ -126,12 +125,11 @@ struct Unread {
 }
 
 // Levels of which nothing was read, beside each other.
-fn begin_levels(alloc: Global, levels: &[OpenLevel]) -> Result<Unread, LoadFault>
+fn begin_levels(alloc: Global, levels: &[OpenLevel]) -> Result<Unread, AllocError>
     ensures opened { IfOk result (λ unread. All IsOpen levels.now) }
     ensures documents { IfOk result (λ unread. unread.documents.items ≡ table_rows levels.now) }
     ensures rows { IfOk result (λ unread. unread.rows.items ≡ map (λ (level : Tables). 0) levels.now) }
     ensures hand { IfOk result (λ unread. unread.hand.items ≡ map (λ (level : Tables). []) levels.now) }
-    ensures only { IfErr result (λ fault. fault ≡ Memory) }
 {
     let mut documents = Vec::new(alloc);
     let mut rows = Vec::new(alloc);
@@ -139,7 +137,9 @@ fn begin_levels(alloc: Global, levels: &[OpenLevel]) -> Result<Unread, LoadFault
     let mut row_room: usize = 0;
     let mut room: usize = 0;
     for level in levels {
-        let extent = data_extent(level)?;
+        let Ok(extent) = data_extent(level) else {
+            return Err(AllocError);
+        };
         let mut more = level.rows().copy_rows(alloc)?;
         documents.append(&mut more)?;
         rows.push(0)?;
@@ -173,7 +173,7 @@ fn begin(
     levels: &[OpenLevel],
     newest: Content,
     gone: &[Loc],
-) -> Result<Begun, LoadFault>
+) -> Result<Begun, AllocError>
     requires { AreDocuments (table_rows levels.now) }
     ensures opened { IfOk result (λ begun. All IsOpen levels.now) }
     ensures documents { IfOk result (λ begun. begun.documents.items ≡ live_rows gone.now (table_rows levels.now)
@@ -184,7 +184,6 @@ fn begin(
     ensures hand { IfOk result (λ begun. begun.hand.items ≡ map (λ (level : Tables). []) levels.now
         ++ newest.lists ∷ []) }
     ensures lists { IfOk result (λ begun. begun.lists ≡ []) }
-    ensures only { IfErr result (λ fault. fault ≡ Memory) }
 {
     let opened = begin_levels(alloc, levels)?;
     let spans = spans_of(alloc, &opened.documents, gone)?;

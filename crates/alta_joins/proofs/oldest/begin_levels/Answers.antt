@@ -23,7 +23,7 @@ loop-level-preserved c =
     let i = c.loop-level.level-index in
     let x : Tables = c.level-item.result in
     let next : take (i + 1) levels ≡ take i levels ++ x ∷ [] = more levels i x c.loop-level-test.true c.level-item.is in
-    let own : IsOpen x = record { keeps = c.rows.ensures.kept; below = omega (arith, c.in_ok-extent.ensures.place, c.in_ok-extent.ensures.bytes, c.in_ok-extent.ensures.below) } in
+    let own : IsOpen x = record { keeps = c.rows.ensures.kept; below = omega (arith, c.in-Ok.ensures.place, c.in-Ok.ensures.bytes, c.in-Ok.ensures.below) } in
     let copied : c.in_ok-more.more.items ≡ x.documents = c.in_ok-more.ensures ∙ c.deref.ensures ∙ c.rows.ensures.rows in
     let none : Tables → ℕ = λ level. 0 in
     let empty : Tables → List TermList = λ level. [] in

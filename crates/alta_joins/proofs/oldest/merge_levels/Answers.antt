@@ -123,7 +123,7 @@ returns-in-Ok-merge_lists-clause-retrieves g c =
     let rows_are : c.deref_mut.result.now ≡ map (λ (level : Tables). 0) levels = c.deref_mut.ensures.value ∙ c.in-Ok.ensures.rows in
     record {
       reads = subst (λ (n : ℕ). Reads g.D.Disk.tells n (g.D.Disk.state c.args.disk.now) (g.D.Disk.state c.merge_lists.new.disk)) (ap (left_of levels) rows_are ∙ left_begins levels)
-          c.merge_lists.ensures.retrieves.reads;
+          c.merge_lists.ensures.reads.retrieves.reads;
       cause = search rules;
     }
 
@@ -133,6 +133,6 @@ returns-in-Err-merge_lists-clause-retrieves g c =
     let rows_are : c.deref_mut.result.now ≡ map (λ (level : Tables). 0) levels = c.deref_mut.ensures.value ∙ c.in-Ok.ensures.rows in
     record {
       reads = subst (λ (n : ℕ). Reads g.D.Disk.tells n (g.D.Disk.state c.args.disk.now) (g.D.Disk.state c.merge_lists.new.disk)) (ap (left_of levels) rows_are ∙ left_begins levels)
-          c.merge_lists.ensures.retrieves.reads;
+          c.merge_lists.ensures.reads.retrieves.reads;
       cause = search rules;
     }
