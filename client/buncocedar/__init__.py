@@ -75,7 +75,7 @@ _HOMES = {
 }
 _HOME_OF = {name: module for module, names in _HOMES.items() for name in names.split()}
 
-__version__ = "0.7.0"
+__version__ = "0.8.0"
 __all__ = [
     "Added",
     "AsyncCursor",

@@ -60,6 +60,11 @@ deleted number old new there found missing unchanged still levels follows = reco
 
 -- ---- one that is allowed
 
+-- a document with a number that is there was there when it was deleted
+pub was_there : (number : ℕ) (s : State) (there : Bool) → has_number number s ≡ true → (there ≡ false → has_number number s ≡ false) → there ≡ true
+was_there number s true has missing = refl
+was_there number s false has missing = absurd (false≢true (sym (missing refl) ∙ has))
+
 pub add_entered : (name title body : List ℕ) (old new : Catalog) (result : Result (Unit {0}) MetaFault)
     → OnOk result ((s : State) → (knows : Knows old s) → KnowsBy new knows.olds (with_added name title body s)) → levels_of new ≡ levels_of old → gone_of new ≡ gone_of old
     → ((root : Root) (entries : List Entry) → Follows old root entries → OnOk result (Follows new root (entries ++ Add name title body ∷ []))) → IsEntered (Add name title body) old new result

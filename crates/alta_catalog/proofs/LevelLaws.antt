@@ -25,7 +25,7 @@ use Rattle.alta_table.specs.Tables.{Tables}
 use Rattle.alta_catalog.specs.Counting.{row_words}
 use Rattle.alta_catalog.specs.Knowing.{IsEndIn, Knows, KnowsBy, Notes}
 use Rattle.alta_names.specs.declared.table.NameTable.{NameTable}
-use Rattle.alta_catalog.specs.Replacing.{IsEmptied, IsPrepared, MayReplace, ends_in, level_in, rows_between, tables_between}
+use Rattle.alta_catalog.specs.Replacing.{IsEmptied, IsLeft, IsPrepared, MayReplace, ends_in, level_in, rows_between, tables_between}
 use Rattle.alta_catalog.specs.Rows.{AreRowsOf, documents_left}
 use Rattle.alta_catalog.specs.declared.catalog.Catalog.{Catalog}
 use Rattle.alta_catalog.specs.declared.replacing.PreparedLevels.{PreparedLevels}
@@ -73,28 +73,28 @@ pub record Stays (now new : Catalog) : Type 0 where
 
 -- what was put in place
 pub record PutsIn (now : Catalog) (prepared : PreparedLevels) (oldest newest : Option Tables) (new : Catalog) : Type 0 where
-  pub levels : new.levels.items ≡ tables_between oldest prepared.stay_from now.levels.items newest
+  pub levels : new.levels.items ≡ level_in oldest ++ (now.levels.items ++ level_in newest)
   pub gone : new.gone ≡ prepared.deleted
 
-pub put_is : (b now new : Catalog) (s : State) (prepared : PreparedLevels) (oldest : Option Tables) (n : ℕ) (newest : Option Tables) → IsEmptied b now → Knows b s
-    → IsPrepared now (table_rows (level_in oldest)) n (table_rows (level_in newest)) prepared → PutsIn now prepared oldest newest new → Stays now new → IsPut b oldest n newest new
-put_is b now new s prepared oldest n newest emptied f is puts stays =
+pub put_is : (b emptied now new : Catalog) (s : State) (prepared : PreparedLevels) (oldest : Option Tables) (n : ℕ) (newest : Option Tables) → IsEmptied b emptied → Knows b s
+    → IsLeft n emptied now → IsPrepared emptied (table_rows (level_in oldest)) n (table_rows (level_in newest)) prepared → PutsIn now prepared oldest newest new → Stays now new → IsPut b oldest n newest new
+put_is b emptied now new s prepared oldest n newest was f left is puts stays =
     let levels : new.levels.items ≡ tables_between oldest n b.levels.items newest =
-    puts.levels ∙ ap (λ (k : ℕ). tables_between oldest k now.levels.items newest) is.stay_from ∙ ap (λ (ls : Vec Tables Global). tables_between oldest n ls.items newest) emptied.levels in
+    puts.levels ∙ ap (λ (ls : List Tables). level_in oldest ++ (ls ++ level_in newest)) left.levels ∙ ap (λ (ls : Vec Tables Global). tables_between oldest n ls.items newest) was.levels in
     record {
       levels = levels;
-      sound = subst (λ (m : LevelView). IsTrue m.sound) (sym stays.memory) emptied.sound;
-      content = subst (λ (m : LevelView). HasContent [] m.content) (sym stays.memory) emptied.empty;
+      sound = subst (λ (m : LevelView). IsTrue m.sound) (sym (stays.memory ∙ left.memory)) was.sound;
+      content = subst (λ (m : LevelView). HasContent [] m.content) (sym (stays.memory ∙ left.memory)) was.empty;
       gone =
           puts.gone ∙ is.deleted
-          ∙ ap₂ (λ (es : List ℕ) (ls : Vec Tables Global). ends_in es (rows_between (table_rows (level_in oldest)) n ls.items (table_rows (level_in newest)))) emptied.gone emptied.levels
+          ∙ ap₂ (λ (es : List ℕ) (ls : Vec Tables Global). ends_in es (rows_between (table_rows (level_in oldest)) n ls.items (table_rows (level_in newest)))) was.gone was.levels
           ∙ ap (ends_in b.gone) (sym (between oldest n b.levels.items newest));
-      first = stays.first ∙ emptied.next;
-      next = stays.next ∙ emptied.next;
-      location = stays.location ∙ emptied.location;
-      count = stays.count ∙ emptied.count;
-      words = stays.words ∙ emptied.words;
-      names = stays.names ∙ emptied.names;
+      first = stays.first ∙ left.next ∙ was.next;
+      next = stays.next ∙ left.next ∙ was.next;
+      location = stays.location ∙ left.location ∙ was.location;
+      count = stays.count ∙ left.count ∙ was.count;
+      words = stays.words ∙ left.words ∙ was.words;
+      names = stays.names ∙ left.names ∙ was.names;
     }
 
 -- ---- what is left

@@ -1,5 +1,5 @@
 -- What a catalog is once other levels stand in place of some of its own.
-use Rattle.std.specs.Prelude.{◌≡◌, ◌+◌, ◌≤◌, ℕ, nat_eq, Bool, true, false, IsTrue, List, [], ◌∷◌, ◌++◌, drop, map, Option, Some, None}
+use Rattle.std.specs.Prelude.{◌≡◌, ◌+◌, ◌≤◌, ℕ, nat_eq, Bool, true, false, IsTrue, List, [], ◌∷◌, ◌++◌, drop, map, Option, Some, None, Result, Ok, Err}
 use Rattle.std.specs.List.{All, filter, list_any}
 use Rattle.std.specs.Vec.{vec_capacity, vec_len}
 use Rattle.alta_content.specs.Rows.{end_of, ends_among}
@@ -54,10 +54,6 @@ pub record IsEmptied (before now : Catalog) : Type 0 where
   pub sound : IsTrue now.memory.sound
   pub empty : HasContent [] now.memory.content
 
--- the index of the first level that stays
-abbrev pub stay_from_of : PreparedLevels → ℕ
-stay_from_of prepared = prepared.stay_from
-
 -- the ends that are deleted once the levels stand
 abbrev pub deleted_of : PreparedLevels → List ℕ
 deleted_of prepared = prepared.deleted
@@ -71,9 +67,26 @@ pub record HasRoom (c : Catalog) (prepared : PreparedLevels) : Type 0 where
 -- all rows to come that are gone.
 pub record IsPrepared (c : Catalog) (oldest : List DocRow) (n : ℕ) (newest : List DocRow)
     (prepared : PreparedLevels) : Type 0 where
-  pub stay_from : prepared.stay_from ≡ n
   pub deleted : prepared.deleted ≡ ends_in c.gone (rows_between oldest n c.levels.items newest)
   pub room : HasRoom c prepared
+
+-- The tables of the n oldest levels were dropped, and all else stayed.
+pub record IsLeft (n : ℕ) (before now : Catalog) : Type 0 where
+  pub next : now.next ≡ before.next
+  pub location : now.location ≡ before.location
+  pub first : now.first ≡ before.first
+  pub count : now.count ≡ before.count
+  pub words : now.words ≡ before.words
+  pub names : now.names ≡ before.names
+  pub memory : now.memory ≡ before.memory
+  pub gone : now.gone ≡ before.gone
+  pub levels : now.levels.items ≡ drop n before.levels.items
+  pub few : vec_len now.levels ≤ vec_len before.levels
+
+-- the tables of the n oldest levels were dropped, and on Err all is as it was
+abbrev pub Leaves : {T E : Type 0} → ℕ → (before now : Catalog) → Result T E → Type 0
+Leaves n before now (Ok x) = IsLeft n before now
+Leaves n before now (Err e) = now ≡ before
 
 -- The levels from an index on may stand between two others, in place of all levels and the newest documents of a catalog: their rows are
 -- some of all rows, in order, and the documents of the others are gone.

@@ -19,7 +19,7 @@ ghost use Rattle.alta_catalog.specs.Knowing.{AreParts, Follows, Knows, KnowsBy, 
 ghost use Rattle.alta_meaning.specs.Names.{AreNames};
 ghost use Rattle.alta_content.specs.All.{rows_of_levels, shared_rows};
 ghost use Rattle.alta_catalog.specs.Names.{AreNamesOf};
-ghost use Rattle.alta_catalog.specs.Replacing.{HasRoom, IsEmptied, IsPrepared, MayReplace, deleted_of, level_in, rows_between, stay_from_of, tables_between};
+ghost use Rattle.alta_catalog.specs.Replacing.{HasRoom, IsEmptied, IsLeft, IsPrepared, Leaves, MayReplace, deleted_of, level_in, rows_between};
 ghost use Rattle.alta_catalog.specs.Rows.{AreRowsOf, MayStart, documents_left};
 ghost use Rattle.alta_root.specs.declared.root.Root.{Root};
 
@@ -173,13 +173,6 @@ impl Catalog {
             × (without n s ≡ with_deleted name.now s)) }
         ensures none { (s : State) → Knows self.now s → IfNone result (has_name name.now s ≡ false) }
     {
-        self.look_up(name)
-    }
-
-    // The number of the live document with this name.
-    fn look_up(&self, name: &str) -> Option<u64>
-        ensures { (s : State) → Knows self.now s → result ≡ number_of name.now s }
-    {
         let Some(number) = self.names.likely(name) else {
             return self.names.other(name);
         };
@@ -288,28 +281,6 @@ impl Catalog {
         Ok(true)
     }
 
-    /// Deletes the live document with this number.
-    ///
-    /// # Errors
-    ///
-    /// `AllocError` where memory is wanting: nothing has changed.
-    pub fn remove(&mut self, number: u64) -> Result<(), AllocError>
-        requires { (s : State) × Knows self.old s × (has_number number s ≡ true) }
-        ensures removed { OnOk result ((s : State) → (knows : Knows self.old s)
-            → KnowsBy self.new knows.olds (without number s)) }
-        ensures still { OnOk result ((row : DocRow) → ends_among (gone_of self.old) row ≡ true
-            → ends_among (gone_of self.new) row ≡ true) }
-        ensures levels { levels_of self.new ≡ levels_of self.old }
-        ensures follows { (root : Root) → (entries : List Entry) → Follows self.old root entries
-            → OnOk result (Follows self.new root (entries ++ DeleteEntry number ∷ [])) }
-    {
-        match self.delete(number) {
-            Ok(true) => Ok(()),
-            Ok(false) => unreachable!(),
-            Err(fault) => Err(fault),
-        }
-    }
-
     /// The number that the next document gets, and the location of its first cell.
     pub fn bounds(&self) -> (DocNumber, Loc)
         ensures follows { (root : Root) → (entries : List Entry) → Follows self.now root entries
@@ -332,32 +303,35 @@ impl Catalog {
     }
 
     /// Takes the memory for other levels: those of these rows, one in place of the levels before the index and one behind all. The ends
-    /// that are gone are looked up among all rows to come.
+    /// that are gone are looked up among all rows to come. Then it drops the tables of the levels before the index, which so take no
+    /// memory beside what is written. Until [`put_levels`](Catalog::put_levels) the catalog knows no state.
     ///
     /// # Errors
     ///
-    /// `AllocError` where memory is wanting.
+    /// `AllocError` where memory is wanting. The catalog is then as it was.
     pub fn prepare(
-        &self,
+        &mut self,
         oldest: &[DocRow],
         stay_from: usize,
         newest: &[DocRow],
     ) -> Result<PreparedLevels, AllocError>
-        requires index { stay_from ≤ length (levels_of self.now) }
-        requires rows { RowsRise (rows_between oldest.now stay_from (levels_of self.now) newest.now) }
-        ensures { IfOk result (IsPrepared self.now oldest.now stay_from newest.now) }
+        requires index { stay_from ≤ length (levels_of self.old) }
+        requires rows { RowsRise (rows_between oldest.now stay_from (levels_of self.old) newest.now) }
+        ensures prepared { IfOk result (IsPrepared self.old oldest.now stay_from newest.now) }
+        ensures left { Leaves stay_from self.old self.new result }
     {
         let stay = &self.levels[stay_from..];
         let ends = ends_to_come(self.alloc, self.gone.ends(), oldest, stay, newest)?;
-        Ok(PreparedLevels {
-            stay_from,
+        let prepared = PreparedLevels {
             levels: Vec::with_capacity(self.alloc, self.levels.len() + 2)?,
             deleted: ends_of(self.alloc, &ends)?,
-        })
+        };
+        self.levels.drain(..stay_from);
+        Ok(prepared)
     }
 
-    /// Goes on over other levels, where the newest documents were taken out: over those that stay, between two new ones, of which each
-    /// may be absent. It takes no memory and cannot fail.
+    /// Goes on over other levels, which [`prepare`](Catalog::prepare) took the memory for, where the newest documents were taken out: over
+    /// those that stay, between two new ones, of which each may be absent. It takes no memory and cannot fail.
     pub fn put_levels(
         &mut self,
         prepared: PreparedLevels,
@@ -365,28 +339,24 @@ impl Catalog {
         newest: Option<OpenLevel>,
     )
         requires room { HasRoom self.old prepared }
-        ensures knows { (before : Catalog) → (s : State) → (n : ℕ) → (olds : List Added)
-            → IsEmptied before self.old → Knows before s
-            → IsPrepared self.old (table_rows (level_in oldest)) n (table_rows (level_in newest)) prepared
+        ensures knows { (before emptied : Catalog) → (s : State) → (n : ℕ) → (olds : List Added)
+            → IsEmptied before emptied → Knows before s → IsLeft n emptied self.old
+            → IsPrepared emptied (table_rows (level_in oldest)) n (table_rows (level_in newest)) prepared
             → MayReplace before oldest n newest
             → AreRowsOf (table_rows (levels_of self.new)) olds
             → KnowsBy self.new olds (record { next = s.next; documents = documents_left (deleted_of prepared) olds }) }
-        ensures same { (before : Catalog) → (s : State) → (n : ℕ) → IsEmptied before self.old → Knows before s
-            → IsPrepared self.old (table_rows (level_in oldest)) n (table_rows (level_in newest)) prepared
+        ensures same { (before emptied : Catalog) → (s : State) → (n : ℕ) → IsEmptied before emptied
+            → Knows before s → IsLeft n emptied self.old
+            → IsPrepared emptied (table_rows (level_in oldest)) n (table_rows (level_in newest)) prepared
             → MayReplace before oldest n newest → Knows self.new s }
-        ensures levels { levels_of self.new ≡ tables_between oldest (stay_from_of prepared)
-            (levels_of self.old) newest }
+        ensures levels { levels_of self.new ≡ level_in oldest ++ (levels_of self.old ++ level_in newest) }
         ensures gone { gone_of self.new ≡ deleted_of prepared }
         ensures follows { (root : Root) → root.next_number ≡ next_of self.old
             → root.next_location ≡ location_of self.old → HasContent [] (memory_of self.old).content
             → Follows self.new root [] }
     {
-        let PreparedLevels {
-            stay_from,
-            levels,
-            deleted,
-        } = prepared;
-        put_between(&mut self.levels, levels, stay_from, oldest, newest);
+        let PreparedLevels { levels, deleted } = prepared;
+        put_between(&mut self.levels, levels, oldest, newest);
         self.gone = deleted;
         self.first = self.next;
     }

@@ -1,5 +1,5 @@
 // Levels that come in place of others, in memory that is taken before.
-ghost use Rattle.std.specs.Prelude.{◌≡◌, ◌+◌, ◌++◌, ◌<◌, ◌≤◌, [], drop, IfOk};
+ghost use Rattle.std.specs.Prelude.{◌≡◌, ◌+◌, ◌++◌, ◌<◌, ◌≤◌, [], IfOk};
 ghost use Rattle.std.specs.Vec.{vec_capacity, vec_len};
 ghost use Rattle.alta_codec.specs.Rising.{IsRising};
 ghost use Rattle.alta_content.specs.Rows.{RowsRise};
@@ -13,13 +13,10 @@ use alta_codec::Loc;
 use alta_content::DocRow;
 use alta_table::OpenLevel;
 use std::alloc::{AllocError, Global};
-use std::cmp::min;
 
 /// What a catalog has once other levels stand, in memory that was taken before.
 #[derive(Drop)]
 pub struct PreparedLevels {
-    // The index of the first level that stays.
-    pub(crate) stay_from: usize,
     // Room for the tables of all levels to come.
     pub(crate) levels: Vec<OpenLevel>,
     // The ends of their documents that are gone.
@@ -98,21 +95,19 @@ fn ends_here(rows: &[DocRow], end: Loc) -> bool
 
 // ---- levels between others
 
-/// Puts the items from an index on between two others, in room that was taken before.
+/// Puts items between two others, in room that was taken before.
 pub(crate) fn put_between<T: Drop>(
     items: &mut Vec<T>,
     room: Vec<T>,
-    stay_from: usize,
     first: Option<T>,
     last: Option<T>,
 )
     requires empty { room.items ≡ [] }
     requires room { vec_len items.old + 2 ≤ vec_capacity room }
-    ensures { items.new.items ≡ some_in first ++ (drop stay_from items.old.items ++ some_in last) }
+    ensures { items.new.items ≡ some_in first ++ (items.old.items ++ some_in last) }
 {
     let mut all = room;
     put_some(&mut all, first);
-    items.drain(..min(stay_from, items.len()));
     let Ok(()) = all.append(items) else {
         unreachable!()
     };

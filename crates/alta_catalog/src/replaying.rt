@@ -108,7 +108,10 @@ pub fn enter_allowed(
 {
     match *entry {
         LentEntry::Add { name, title, body } => catalog.add(alloc, name, title, body),
-        LentEntry::Delete { number } => Ok(catalog.remove(number)?),
+        LentEntry::Delete { number } => {
+            let _there = catalog.delete(number)?;
+            Ok(())
+        }
         LentEntry::Replace {
             number,
             name,
@@ -132,7 +135,7 @@ fn put_again(
     requires allowed { (s : State) → Knows catalog.old s → Allows s (Replace number name.now title.now body.now) }
     ensures { IsEntered (Replace number name.now title.now body.now) catalog.old catalog.new result }
 {
-    catalog.remove(number)?;
+    let _there = catalog.delete(number)?;
     catalog.add(alloc, name, title, body)?;
     Ok(())
 }

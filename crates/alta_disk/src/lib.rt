@@ -23,5 +23,5 @@ pub use file_fault::FileFault;
 pub use fuse::FuseDisk;
 pub use laws::images_keep_the_firm_bytes;
 pub use memory::MemoryDisk;
-pub use parts::read_part;
+pub use parts::{read_behind, read_part};
 pub use synced::write_synced;

@@ -147,13 +147,6 @@ module _ (levels : List Tables) (contents : List Content) (gone : List ℕ) (add
   pub newest_same : joined_in (contents ++ newest ∷ []) gone ≡ joined_in (contents ++ content_of added ∷ []) gone
   newest_same = ap (λ (c : Content). joined_in (contents ++ c ∷ []) gone) newest_is ∙ live_same contents added gone is.are_added.space all_join
 
-pub merged_rows : (levels : List Tables) (contents : List Content) (gone : List ℕ) (newest : Content) → AreContentsOf levels contents
-    → (joined_in (contents ++ newest ∷ []) gone).documents ≡ live_rows gone (table_rows levels ++ newest.documents)
-merged_rows levels contents gone newest are =
-    ap (live_rows gone)
-    (flat_map-append (λ (c : Content). c.documents) contents (newest ∷ []) ∙ ap (λ (rows : List DocRow). rows ++ rows_in (newest ∷ [])) (content_rows levels contents are)
-    ∙ ap (λ (rows : List DocRow). table_rows levels ++ rows) (append-nil newest.documents))
-
 -- ---- a merge of lists
 
 -- rows that are left stay, and none of them is dead

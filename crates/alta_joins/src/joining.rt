@@ -1,4 +1,4 @@
-// Joins of contents, at once and in slices.
+// Joins of contents, in slices.
 ghost use Rattle.std.specs.Prelude.{◌≡◌, ◌+◌, ◌<◌, ◌∷◌, ℕ, [], length, nat_le, IfOk, OnOk, OnErr, IsTrue};
 ghost use Rattle.alta_content.specs.Parts.{MayJoin};
 ghost use Rattle.alta_content.specs.declared.content.Content.{Content};
@@ -12,23 +12,9 @@ use alta_content::Content;
 use alta_merge::Job;
 use std::alloc::{AllocError, Global};
 
-/// Joins contents, each before the next, without the documents whose end is dead. The dead ends may stand in any order, and may be
-/// ends of no document. Each location is moved or copied once, and each term costs a comparison for each content.
-pub fn join_levels(
-    alloc: Global,
-    contents: Vec<Content>,
-    dead: &[Loc],
-) -> Result<Content, AllocError>
-    requires { MayJoin contents.items }
-    ensures { IfOk result (λ content. content ≡ joined_in contents.items dead.now) }
-{
-    let mut job = begin_job(alloc, contents, dead)?;
-    run_job(&mut job)?;
-    Ok(job.finish())
-}
-
 /// Begins the join of contents, each before the next, without the documents whose end is dead: of two levels it is the job of a
-/// store. It takes a few allocations, whatever the number of terms.
+/// store. The dead ends may stand in any order, and may be ends of no document. It takes a few allocations, whatever the number of
+/// terms.
 pub fn begin_job(alloc: Global, contents: Vec<Content>, dead: &[Loc]) -> Result<Job, AllocError>
     requires { MayJoin contents.items }
     ensures whole { IfOk result (λ job. job.whole ≡ joined_in contents.items dead.now) }

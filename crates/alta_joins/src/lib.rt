@@ -10,7 +10,7 @@ mod oldest;
 mod window;
 
 pub use alta_merge::Job;
-pub use joining::{begin_job, finish_job, join_levels, run_job, step_job};
+pub use joining::{begin_job, finish_job, run_job, step_job};
 pub use laws::{
     joins_are_levels, joins_go_on, joins_keep_documents, read_contents_may_join,
     read_levels_are_opened, what_is_held_may_join,

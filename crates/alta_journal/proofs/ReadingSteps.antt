@@ -2,13 +2,13 @@
 use Rattle.std.proofs.Common.{◌≡◌, inr, ℕ, suc, ◌+◌, ◌-◌, ◌<◌, ◌≤◌, List, [], ◌∷◌, ◌++◌, length, get_or, take, drop, Some, None, Result, Ok, Err, refl, sym, ◌∙◌, ap, subst, arith, append_assoc, length-append, length-drop, take-append-drop}
 use Rattle.std.specs.List.{flat_map}
 use Rattle.std.specs.Result.{MatchResult, IfOk, IfErr}
-use Rattle.std.proofs.lemmas.List.{drop_more, drop-drop, take_at, drop_at, length-take-le}
-use Rattle.alta_layout.specs.declared.places.TheConstants.{GATE_OPEN, HEAD_BYTES}
+use Rattle.std.proofs.lemmas.List.{drop_more, drop-drop, take_at, take-append-le, get_or_append_left, drop_at, length-take-le}
+use Rattle.alta_layout.specs.declared.places.TheConstants.{GATE_OPEN, HALF_BYTES, HEAD_BYTES}
 use Rattle.alta_disk.specs.Parts.{part}
 use Rattle.alta_journal.specs.Entry.{MayBeRecorded, four_bytes, measured, payload_of}
 use Rattle.alta_journal.specs.Found.{IsFound}
 use Rattle.alta_journal.specs.Journal.{Begins, EndsAt, HasBrokenRecord, HasBrokenHalf}
-use Rattle.alta_journal.specs.Placed.{placed, IsReading, IsReplay}
+use Rattle.alta_journal.specs.Placed.{placed, IsReading, IsReplay, IsWhole}
 use Rattle.alta_journal.specs.Places.{half_at, HasClosedGate}
 use Rattle.alta_journal.specs.Reading.{of_four, entry_in}
 use Rattle.alta_journal.specs.Record.{record_of}
@@ -117,6 +117,46 @@ broken_half version start place bytes image is whole damaged = record {
   whole = whole;
 }
 
+-- the first bytes of a half, and the others behind them
+pub half_in_two : (start first : ℕ) (image : List ℕ) → first ≤ HALF_BYTES → part start first image ++ part (start + first) (HALF_BYTES - first) image ≡ half_at start image
+unfolding half_at
+half_in_two start first image inside =
+    let all : first + (HALF_BYTES - first) ≡ HALF_BYTES = omega (arith, inside) in
+    ap (λ (l : List ℕ). part start first image ++ take (HALF_BYTES - first) l) (sym (drop-drop first start image)) ∙ sym (take_sum first (HALF_BYTES - first) (drop start image))
+    ∙ ap (λ (k : ℕ). take k (drop start image)) all
+
+-- what ends among the first bytes ends so in all
+pub whole_more : (version start tail : ℕ) (found : List Placed) (front rest : List ℕ) → IsWhole version start found tail front → IsWhole version start found tail (front ++ rest)
+whole_more version start tail found front rest (starts, (entries, found_is, begins), closed) = (
+  starts,
+  (
+    entries,
+    found_is,
+    record {
+      records = take-append-le (tail - start) front rest (omega (arith, begins.gate)) ∙ begins.records;
+      sound = begins.sound;
+      gate = omega (arith, begins.gate, length-append front rest);
+    },
+  ),
+  (
+    omega (arith, closed.0, length-append front rest),
+    λ is_open. closed.1 (sym (get_or_append_left front rest 0 (tail - start) closed.0) ∙ is_open),
+  ),
+)
+
+module _ (start first : ℕ) (front content : List ℕ) (inside : first ≤ HALF_BYTES) (front_is : front ≡ part start first content) where
+  -- the half, once the others were read behind its first bytes
+  pub read_in_two : (bytes later : List ℕ) → later ≡ content → bytes ≡ front ++ part (start + first) (HALF_BYTES - first) later → bytes ≡ half_at start content
+  read_in_two bytes later same is =
+      is ∙ ap (λ (l : List ℕ). l ++ part (start + first) (HALF_BYTES - first) later) front_is
+      ∙ ap (λ (l : List ℕ). part start first content ++ part (start + first) (HALF_BYTES - first) l) same ∙ half_in_two start first content inside
+
+  -- what ends among its first bytes
+  pub read_at_once : (version tail : ℕ) (found : List Placed) → IsWhole version start found tail front → IsWhole version start found tail (half_at start content)
+  read_at_once version tail found read =
+      subst (λ (l : List ℕ). IsWhole version start found tail l) (ap (λ (l : List ℕ). l ++ part (start + first) (HALF_BYTES - first) content) front_is ∙ half_in_two start first content inside)
+      (whole_more version start tail found front (part (start + first) (HALF_BYTES - first) content) read)
+
 -- an answer, by what is known of each of its variants
 pub match_both : {T E : Type 0} (r : Result T E) (P P' : T → Type 0) (Q Q' : E → Type 0) → IfOk r P → IfErr r Q → ((x : T) → P x → P' x) → ((e : E) → Q e → Q' e) → MatchResult r P' Q'
 match_both (Ok x) P P' Q Q' ok err from_ok from_err = from_ok x ok
@@ -126,7 +166,7 @@ match_both (Err e) P P' Q Q' ok err from_ok from_err = from_err e err
 
 module _ (version start : ℕ) (bytes image : List ℕ) (is : bytes ≡ half_at start image) (whole : HEAD_BYTES ≤ length image) where
   -- a reading that ends at a closed gate is that of the half
-  pub replay_is : (found : List Placed) (tail : ℕ) → (start ≤ tail) × IsReading version start found (tail - start) bytes × HasClosedGate (tail - start) bytes → IsReplay version start found tail image
+  pub replay_is : (found : List Placed) (tail : ℕ) → IsWhole version start found tail bytes → IsReplay version start found tail image
   replay_is found tail (starts, reading, closed) = (
     reading.0,
     reading.1,

@@ -1,6 +1,7 @@
 -- What a replay answers: the entries of a half with their places, and its tail.
-use Rattle.std.specs.Prelude.{◌≡◌, ℕ, ◌+◌, List, [], ◌∷◌, length}
+use Rattle.std.specs.Prelude.{◌≡◌, ℕ, ◌+◌, ◌-◌, ◌≤◌, List, [], ◌∷◌, length}
 use Rattle.alta_journal.specs.Journal.{Begins, EndsAt}
+use Rattle.alta_journal.specs.Places.{HasClosedGate}
 use Rattle.alta_journal.specs.Record.{record_of}
 use Rattle.alta_journal.specs.declared.entry.Entry.{Entry}
 use Rattle.alta_journal.specs.declared.placed.Placed.{Placed}
@@ -20,3 +21,8 @@ IsReplay version start found tail image = (entries : List Entry) × (found ≡ p
 abbrev pub IsReading : ℕ → ℕ → List Placed → ℕ → List ℕ → Type 0
 IsReading version start found at slot = (entries : List Entry) × (found ≡ placed start entries)
     × Begins version entries at slot
+
+-- These are the entries of a half of these bytes, with their places, and its first closed gate stands at `tail`.
+abbrev pub IsWhole : ℕ → ℕ → List Placed → ℕ → List ℕ → Type 0
+IsWhole version start found tail slot = (start ≤ tail) × IsReading version start found (tail - start) slot
+    × HasClosedGate (tail - start) slot

@@ -163,7 +163,7 @@ fn fitting(next: Option<Ready>, room: u64) -> Option<Ready>
     }
 }
 
-// Writes a body, and behind it that of the record to come.
+// Writes a body, and behind it that of the record to come, where there is one, without a sync.
 fn put_bodies<D: Disk>(
     disk: &mut D,
     at: u64,
@@ -184,7 +184,10 @@ fn put_bodies<D: Disk>(
         (D.state disk.new) result }
 {
     put_body(disk, at, bytes, ahead)?;
-    put_next(disk, at + bytes.len() as u64, next)
+    match next {
+        None => Ok(()),
+        Some(ready) => disk.write(at + bytes.len() as u64, ready.bytes()),
+    }
 }
 
 // Writes a body and syncs, where it does not stand there already.
@@ -201,33 +204,9 @@ fn put_body<D: Disk>(
     ensures stands { OnOk result (Stands D.tells (D.state disk.new) (HasBytes at bytes.now)) }
     ensures puts { Puts at (length bytes.now) (D.state disk.old) (D.state disk.new) result }
 {
-    if is_of(&ahead, bytes) {
-        return Ok(());
-    }
-    write_synced(disk, at, bytes)
-}
-
-// Whether it is the record with this body.
-fn is_of(ahead: &Option<Ready>, bytes: &[u8]) -> bool
-    ensures { IsTrue result → bytes_ahead ahead.now ≡ bytes.now }
-{
     match ahead {
-        None => false,
-        Some(ready) => ready.bytes() == bytes,
-    }
-}
-
-// Writes the body of the record to come, where there is one, without a sync.
-fn put_next<D: Disk>(disk: &mut D, at: u64, next: &Option<Ready>) -> Result<(), Failed>
-    requires inside { D.tells → at ≤ length (D.state disk.old).content }
-    requires fits { at + length (bytes_ahead next.now) ≤ (D.state disk.old).limit }
-    ensures written { D.tells → OnOk result
-        (Holds (D.state disk.old).content at (bytes_ahead next.now) (D.state disk.new).content) }
-    ensures puts { Puts at (length (bytes_ahead next.now)) (D.state disk.old) (D.state disk.new) result }
-{
-    match next {
-        None => Ok(()),
-        Some(ready) => disk.write(at, ready.bytes()),
+        Some(ready) if ready.bytes() == bytes => Ok(()),
+        _ => write_synced(disk, at, bytes),
     }
 }
 

@@ -22,7 +22,7 @@ pub fn ready(alloc: Global, entry: &LentEntry<'_>) -> Result<Ready, AllocError>
     bytes.extend_from_slice(&(payload as u32).to_be_bytes())?;
     put_payload(&mut bytes, entry)?;
     bytes.push(GATE_CLOSED)?;
-    Ok(Ready::of_bytes(bytes))
+    Ok(Ready { bytes })
 }
 
 /// Whether a root of version 1 may have this entry in its journal: it is an add or a delete, and its payload has at most

@@ -9,7 +9,7 @@ use std::marker::Model;
 /// gate.
 #[derive(Drop)]
 pub struct Ready {
-    bytes: Vec<u8>,
+    pub(crate) bytes: Vec<u8>,
 }
 
 impl Model for Ready {
@@ -27,16 +27,6 @@ impl Model for Ready {
 }
 
 impl Ready {
-    ghost use Rattle.alta_journal.specs.Reading.{entry_of_body};
-
-    pub(crate) fn of_bytes(bytes: Vec<u8>) -> Ready
-        requires sound { MayBeRecorded 2 (entry_of_body bytes.items) }
-        requires spells { bytes.items ≡ body_of (entry_of_body bytes.items) }
-        ensures { result ≡ record { entry = entry_of_body bytes.items; bytes = bytes.items } }
-    {
-        Ready { bytes }
-    }
-
     /// What is written behind the gate: the payload behind its length, and the next gate, closed.
     pub fn bytes(&self) -> &[u8]
         ensures bytes { result.now ≡ body_of self.now.entry }

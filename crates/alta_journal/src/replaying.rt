@@ -1,5 +1,5 @@
 // The entries of a half, up to the first closed gate.
-ghost use Rattle.std.specs.Prelude.{◌≡◌, ◌≢◌, ℕ, ◌+◌, ◌-◌, ◌<◌, ◌≤◌, List, length, All, IfOk, IfErr, MatchOption, MatchResult};
+ghost use Rattle.std.specs.Prelude.{◌≡◌, ◌≢◌, ℕ, ◌+◌, ◌-◌, ◌<◌, ◌≤◌, List, length, All, IfOk, IfErr, IfSome, MatchOption, MatchResult};
 ghost use Rattle.alta_layout.specs.declared.places.TheConstants.{HEAD_BYTES};
 ghost use Rattle.alta_layout.specs.Places.{half_start};
 ghost use Rattle.alta_disk.specs.Calls.{Retrieves};
@@ -10,19 +10,23 @@ ghost use Rattle.alta_journal.specs.Entry.{MayBeRecorded};
 ghost use Rattle.alta_journal.specs.Journal.{EndsAt, HasBrokenHalf, HasBrokenRecord};
 ghost use Rattle.alta_disk.specs.Answers.{IsNoDamage};
 ghost use Rattle.alta_journal.specs.declared.entry.Entry.{Entry};
-ghost use Rattle.alta_journal.specs.Placed.{placed, IsReplay, IsReading};
-ghost use Rattle.alta_journal.specs.Places.{HasClosedGate};
+ghost use Rattle.alta_journal.specs.Placed.{placed, IsReplay, IsWhole};
+ghost use Rattle.alta_journal.specs.Places.{half_at};
 ghost use Rattle.alta_journal.specs.Reading.{of_four};
 
 use crate::fields::entry_from;
 use crate::{Placed, Tail};
-use alta_disk::{Disk, LoadFault, read_part};
+use alta_disk::{Disk, LoadFault, read_behind, read_part};
 use alta_layout::{GATE_OPEN, HALF_BYTES, Slot};
-use std::alloc::Global;
+use std::alloc::{AllocError, Global};
+
+// How many bytes of a half are read first. Mostly its first closed gate is among them.
+const FIRST_BYTES: u64 = 65_536;
 
 /// Reads the entries of a half, each with the place of its record's gate, and the half's tail, the first closed gate. Each entry
 /// keeps the rules of a record under a root of this version, which is 1 or 2.
-/// The half is read whole, by one read of the disk. The disk has at least [`HEAD_BYTES`](crate::HEAD_BYTES).
+/// The half's first 65,536 bytes are read, and the others only where these don't end the reading. The disk has at least
+/// [`HEAD_BYTES`](crate::HEAD_BYTES).
 ///
 /// # Errors
 ///
@@ -53,21 +57,70 @@ pub fn replay<D: Disk>(
 
     ensures retrieves { Retrieves D.tells HALF_BYTES (D.state disk.old) (D.state disk.new) result }
 {
-    let bytes = read_part(alloc, disk, slot.half_start(), HALF_BYTES)?;
+    read_half(alloc, disk, slot, version)
+}
+
+// The entries of a half. Where its first closed gate is among its first bytes, they alone are read.
+fn read_half<D: Disk>(
+    alloc: Global,
+    disk: &mut D,
+    slot: Slot,
+    version: u8,
+) -> Result<(Vec<Placed>, Tail), LoadFault>
+    requires { D.tells → HEAD_BYTES ≤ length (D.state disk.old).content }
+    ensures read { D.tells → IfOk result (λ r. IsWhole version (half_start slot) r.0.items r.1.place
+        (half_at (half_start slot) (D.state disk.old).content)) }
+    ensures slot { IfOk result (λ r. r.1.slot ≡ slot) }
+    ensures rules { IfOk result (λ r. All (λ p. MayBeRecorded version p.entry) r.0.items) }
+    ensures damaged { D.tells → IfErr result (λ e. (place : ℕ) → e ≡ LoadFault.Damaged place
+        → (half_start slot ≤ place) × HasBrokenRecord version (place - half_start slot)
+        (half_at (half_start slot) (D.state disk.old).content)) }
+    ensures retrieves { Retrieves D.tells HALF_BYTES (D.state disk.old) (D.state disk.new) result }
+{
+    let start = slot.half_start();
+    let first = read_part(alloc, disk, start, FIRST_BYTES)?;
+    let ended = read_first(alloc, slot, version, &first)?;
+    if let Some(found) = ended {
+        return Ok(found);
+    }
+    let bytes = read_behind(
+        alloc,
+        disk,
+        &first,
+        start + FIRST_BYTES,
+        HALF_BYTES - FIRST_BYTES,
+    )?;
     read_records(alloc, slot, version, &bytes)
 }
 
-// The entries in the bytes of a half.
+// The entries in the first bytes of a half, if its first closed gate is among them.
+fn read_first(
+    alloc: Global,
+    slot: Slot,
+    version: u8,
+    bytes: &[u8],
+) -> Result<Option<(Vec<Placed>, Tail)>, AllocError>
+    requires { (0 < length bytes.now) × (length bytes.now ≤ HALF_BYTES) }
+    ensures read { IfOk result (λ o. IfSome o (λ r. IsWhole version (half_start slot) r.0.items r.1.place bytes.now)) }
+    ensures slot { IfOk result (λ o. IfSome o (λ r. r.1.slot ≡ slot)) }
+    ensures rules { IfOk result (λ o. IfSome o (λ r. All (λ p. MayBeRecorded version p.entry) r.0.items)) }
+{
+    match read_records(alloc, slot, version, bytes) {
+        Ok(found) => Ok(Some(found)),
+        Err(LoadFault::Memory) => Err(AllocError),
+        Err(_) => Ok(None),
+    }
+}
+
+// The entries in bytes of a half.
 fn read_records(
     alloc: Global,
     slot: Slot,
     version: u8,
     bytes: &[u8],
 ) -> Result<(Vec<Placed>, Tail), LoadFault>
-    requires { length bytes.now ≡ HALF_BYTES }
-    ensures read { IfOk result (λ r. (half_start slot ≤ r.1.place)
-        × IsReading version (half_start slot) r.0.items (r.1.place - half_start slot) bytes.now
-        × HasClosedGate (r.1.place - half_start slot) bytes.now) }
+    requires { (0 < length bytes.now) × (length bytes.now ≤ HALF_BYTES) }
+    ensures read { IfOk result (λ r. IsWhole version (half_start slot) r.0.items r.1.place bytes.now) }
     ensures slot { IfOk result (λ r. r.1.slot ≡ slot) }
     ensures rules { IfOk result (λ r. All (λ p. MayBeRecorded version p.entry) r.0.items) }
     ensures damaged { IfErr result (λ e. (place : ℕ) → e ≡ LoadFault.Damaged place

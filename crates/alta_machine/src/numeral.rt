@@ -1,7 +1,7 @@
 // Words that are numbers.
 // A word is a number exactly where it is std's own spelling (`decimal`) of one below 2^32, so no definition of digits stands beside
 // std's.
-ghost use Rattle.std.specs.Prelude.{◌≡◌, ◌≢◌, ℕ, ◌^◌, ◌<◌, length, slice_index, MatchOption, IfSome, IsTrue, ◌↔◌};
+ghost use Rattle.std.specs.Prelude.{◌≡◌, ◌≢◌, ℕ, ◌^◌, ◌<◌, length, slice_index, MatchOption, IsTrue, ◌↔◌};
 ghost use Rattle.std.specs.Fmt.{decimal};
 ghost use Rattle.alta_machine.specs.Numbers.{number_in};
 
@@ -10,13 +10,6 @@ ghost use Rattle.alta_machine.specs.Numbers.{number_in};
 pub fn number(word: &str) -> Option<u32>
     ensures number { MatchOption result ((n : ℕ) → n < 2 ^ 32 → decimal n ≢ word.now) (λ n. decimal n ≡ word.now) }
     ensures value { result ≡ number_in word.now }
-{
-    read(word)
-}
-
-fn read(word: &str) -> Option<u32>
-    ensures number { MatchOption result ((n : ℕ) → n < 2 ^ 32 → decimal n ≢ word.now) (λ n. decimal n ≡ word.now) }
-    ensures small { IfSome result (λ n. n < 2 ^ 32) }
 {
     match word.parse::<u32>() {
         Ok(n) if is_plain(word.as_bytes()) => Some(n),

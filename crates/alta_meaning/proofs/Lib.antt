@@ -13,6 +13,7 @@ pub mod KeptStates
 pub mod KnownLaws
 pub mod MergeLaws
 pub mod NameLaws
+pub mod NumberLaws
 pub mod OneReading
 pub mod OneState
 pub mod OrderLaws

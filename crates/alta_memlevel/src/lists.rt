@@ -29,8 +29,8 @@ pub fn list_of<'a>(lists: &'a Lists, term: &[u8]) -> &'a [Loc]
     }
 }
 
-/// Adds a location at the end of the term's.
-pub fn put(alloc: Global, lists: &mut Lists, term: &[u8], location: Loc) -> Result<(), AllocError>
+/// Adds a location at the end of the term's, or the term with it as its first.
+fn put(alloc: Global, lists: &mut Lists, term: &[u8], location: Loc) -> Result<(), AllocError>
     requires { IsIndex lists.old.entries }
     ensures { OnOk result (Adds lists.old.entries lists.new.entries
         (λ other. cond (bytes_eq term.now other) (location ∷ []) [])) }
@@ -39,16 +39,6 @@ pub fn put(alloc: Global, lists: &mut Lists, term: &[u8], location: Loc) -> Resu
         list.push(location)?;
         return Ok(());
     }
-    put_first(alloc, lists, term, location)
-}
-
-/// Adds a term that is not among them, with its first location.
-fn put_first(alloc: Global, lists: &mut Lists, term: &[u8], location: Loc) -> Result<(), AllocError>
-    requires index { IsIndex lists.old.entries }
-    requires new { list_in lists.old.entries term.now ≡ [] }
-    ensures { OnOk result (Adds lists.old.entries lists.new.entries
-        (λ other. cond (bytes_eq term.now other) (location ∷ []) [])) }
-{
     let key = Vec::from_slice(alloc, term)?;
     let list = vec![in alloc; location]?;
     lists.insert(key, list)?;

@@ -1,5 +1,5 @@
 -- Numbers by names, and what a table has of them.
-use Rattle.std.specs.Prelude.{◌≡◌, ◌⊎◌, ℕ, List, Option, Some, nat_eq}
+use Rattle.std.specs.Prelude.{◌≡◌, ◌⊎◌, ℕ, ◌%◌, List, Option, Some, nat_eq}
 use Rattle.std.specs.HashMap.{get, get_by_text}
 use Rattle.std.specs.Hash.FoldHasher as folding
 use Rattle.alta_names.specs.declared.table.NameTable.{NameTable}
@@ -8,9 +8,9 @@ use Rattle.alta_names.specs.declared.table.NameTable.{NameTable}
 abbrev pub Numbers : Type 0
 Numbers = List ℕ → Option ℕ
 
--- the hash of a name
+-- the hash of a name, below 2^32
 unfoldable pub name_hash : List ℕ → ℕ
-name_hash name = folding.finish (folding.write folding.initial name)
+name_hash name = folding.finish (folding.write folding.initial name) % 4294967296
 
 -- the number of a hash
 abbrev pub first_of : NameTable → ℕ → Option ℕ

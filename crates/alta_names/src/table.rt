@@ -9,13 +9,17 @@ use crate::hash::hash_of;
 use std::alloc::{AllocError, Global};
 use std::collections::HashMap;
 
-/// The numbers of documents by the hashes of their names. A name whose hash another one has stands in a map of its own, by its text. The
-/// names of all others are nowhere in the table: whoever asks it looks at the name of the number that it answers.
+// The greatest number that stands beside a hash, in four bytes.
+const LAST_SHORT: u64 = 4_294_967_295;
+
+/// The numbers of documents by the hashes of their names, four bytes each. A name whose hash another one has, or whose number is wider,
+/// stands in a map of its own, by its text. The names of all others are nowhere in the table: whoever asks it looks at the name of the
+/// number that it answers.
 #[derive(Drop)]
 pub struct NameTable {
     // A number for each hash.
-    firsts: HashMap<u64, u64>,
-    // The numbers of names whose hash had a number when they came.
+    firsts: HashMap<u32, u32>,
+    // The numbers of names whose hash had a number when they came, and wider numbers.
     others: HashMap<String, u64>,
 }
 
@@ -41,7 +45,8 @@ impl NameTable {
     pub fn likely(&self, name: &str) -> Option<u64>
         ensures { result ≡ likely_of self.now name.now }
     {
-        self.firsts.get(&hash_of(name)).copied()
+        let number = self.firsts.get(&hash_of(name))?;
+        Some(u64::from(*number))
     }
 
     /// The number of a name among those that are kept by their texts.
@@ -57,11 +62,11 @@ impl NameTable {
             → OnOk result (Fits self.new (update bytes_eq numbers name.now (Some number))) }
     {
         let hash = hash_of(name);
-        if self.firsts.contains_key(&hash) {
+        if number > LAST_SHORT || self.firsts.contains_key(&hash) {
             let key = String::from_str(alloc, name)?;
             self.others.insert(key, number)?;
         } else {
-            self.firsts.insert(hash, number)?;
+            self.firsts.insert(hash, number as u32)?;
         }
         Ok(())
     }
@@ -78,13 +83,13 @@ impl NameTable {
 }
 
 // Takes a hash out, if this is its number.
-fn forget_first(firsts: &mut HashMap<u64, u64>, hash: u64, number: u64)
+fn forget_first(firsts: &mut HashMap<u32, u32>, hash: u32, number: u64)
     ensures less { (h n : ℕ) → get nat_eq firsts.new h ≡ Some n → get nat_eq firsts.old h ≡ Some n }
     ensures kept { (h n : ℕ) → get nat_eq firsts.old h ≡ Some n → n ≢ number → get nat_eq firsts.new h ≡ Some n }
     ensures gone { get nat_eq firsts.new hash ≢ Some number }
 {
     let known = firsts.get(&hash).copied();
-    if known == Some(number) {
+    if known.map(u64::from) == Some(number) {
         firsts.remove(&hash);
     }
 }

@@ -3,6 +3,7 @@ pub mod EndLaws
 pub mod LevelLaws
 pub mod ListLaws
 pub mod Naming
+pub mod Numbered
 pub mod OpeningLaws
 pub mod RowLaws
 pub mod Searches

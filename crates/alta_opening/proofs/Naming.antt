@@ -1,6 +1,6 @@
 -- Names of live documents, as a list and in a table.
-use Rattle.std.proofs.Common.{◌≡◌, ℕ, suc, ◌+◌, ◌<◌, Bool, true, false, cond, List, [], ◌∷◌, ◌++◌, length, take, drop, get_or, drop-cons, Option, refl, sym, ap, subst, ◌∙◌, Err, append_assoc, arith}
-use Rattle.std.specs.Prelude.{◌||◌, not, Some, None, is_some}
+use Rattle.std.proofs.Common.{◌≡◌, ℕ, suc, ◌+◌, ◌<◌, Bool, true, false, cond, List, [], ◌∷◌, ◌++◌, length, take, drop, get_or, drop-cons, Option, refl, sym, ap, ap₂, subst, ◌∙◌, Err, append_assoc, arith}
+use Rattle.std.specs.Prelude.{◌&&◌, ◌||◌, ◌==◌, not, Some, None, is_some}
 use Rattle.std.specs.Map.{update}
 use Rattle.std.specs.Str.{bytes_eq}
 use Rattle.std.proofs.lemmas.Bool.{false≢true}
@@ -8,11 +8,11 @@ use Rattle.std.proofs.lemmas.List.{append-nil, take_more}
 use Rattle.std.proofs.lemmas.List.Folds.{list_any-append}
 use Rattle.alta_content.specs.Rows.{ends_among}
 use Rattle.alta_content.specs.declared.document.DocRow.{DocRow}
-use Rattle.alta_meaning.specs.Known.{Named, is_taken, named}
+use Rattle.alta_meaning.specs.Known.{Named, is_taken, is_taken_by, named}
 use Rattle.alta_meaning.specs.Opened.{live_in, names_from}
 use Rattle.alta_meaning.proofs.NameLaws.{bytes_eq-swap}
 use Rattle.alta_meaning.proofs.OrderLaws.{live_append, live_drop, live_keep}
-use Rattle.alta_meaning.proofs.Tests.{by_test, bytes_from}
+use Rattle.alta_meaning.proofs.Tests.{by_test, bytes_from, equal_test, or_first, or_right}
 use Rattle.alta_table.specs.Places.{name_place}
 use Rattle.alta_table.specs.Tables.{Tables}
 use Rattle.alta_meaning.specs.Names.{AreNames, number_of}
@@ -22,6 +22,9 @@ use Rattle.alta_names.proofs.Fitting.{by_text, same_numbers}
 use Rattle.alta_opening.specs.Names.{may_join}
 
 -- ---- a name among live documents
+
+same_number : (m n : ℕ) → Some m ≡ Some n → m ≡ n
+same_number m n e = cc
 
 some_if : {X : Type 0} (b : Bool) (x : X) (o : Option X) → is_some (cond b (Some x) o) ≡ (b || is_some o)
 some_if true x o = refl
@@ -68,6 +71,26 @@ number_noted live name number free q =
     ap (λ (b : Bool). cond b (Some number) (number_of q live)) differs
     ∙ sym (number_before q live (named name number) (bytes_eq-swap q name ∙ differs)))
 
+-- a name that has a number is the name of a live document with this number
+number_taken : (name : List ℕ) (number : ℕ) (live : List Named) → number_of name live ≡ Some number → is_taken_by name number live ≡ true
+number_taken name number [] is = absurd cc
+number_taken name number (row ∷ rows) is =
+    by_test (bytes_eq name row.name)
+    (λ same.
+    let its : row.number ≡ number = same_number row.number number (sym (ap (λ (b : Bool). cond b (Some row.number) (number_of name rows)) same) ∙ is) in
+    ap₂ (λ (a b : Bool). (a && b) || is_taken_by name number rows) same (equal_test row.number number its))
+    (λ differs. or_right (bytes_eq name row.name && row.number == number) (is_taken_by name number rows)
+    (number_taken name number rows (sym (ap (λ (b : Bool). cond b (Some row.number) (number_of name rows)) differs) ∙ is)))
+
+-- whoever has the name with a number has the name
+pub taken_any : (name : List ℕ) (number : ℕ) (live : List Named) → is_taken_by name number live ≡ true → is_taken name live ≡ true
+taken_any name number [] taken = taken
+taken_any name number (row ∷ rows) taken =
+    by_test (bytes_eq name row.name)
+    (λ same. or_first (bytes_eq name row.name) (is_taken name rows) same)
+    (λ differs. or_right (bytes_eq name row.name) (is_taken name rows)
+    (taken_any name number rows (sym (ap (λ (b : Bool). (b && row.number == number) || is_taken_by name number rows) differs) ∙ taken)))
+
 -- ---- a name among the live documents of rows
 
 -- a row that is deleted has none
@@ -95,6 +118,15 @@ taken_split deleted name rows more = ap (is_taken name) (live_append deleted row
 pub taken_by_text : (table : NameTable) (live : List Named) → AreNames table live → (name : List ℕ) → likely_of table name ≡ None → is_some (other_of table name) ≡ is_taken name live
 taken_by_text table live are name none =
     ap is_some (by_text table (λ (x : List ℕ). number_of x live) are name (λ n first has. absurd (cc (none, first)))) ∙ sym (taken_found name live)
+
+-- what is not that of the number of its hash is found by its text, or not at all
+pub taken_by_another : (table : NameTable) (live : List Named) → AreNames table live → (name : List ℕ) (number : ℕ) → likely_of table name ≡ Some number → is_taken_by name number live ≡ false
+    → is_some (other_of table name) ≡ is_taken name live
+taken_by_another table live are name number likely other =
+    ap is_some (by_text table (λ (x : List ℕ). number_of x live) are name (λ n first has.
+    let same : n ≡ number = same_number n number (sym first ∙ likely) in
+    false≢true (sym other ∙ number_taken name number live (has ∙ ap (λ (k : ℕ). Some k) same))))
+    ∙ sym (taken_found name live)
 
 -- ---- a row behind live documents
 

@@ -8,7 +8,6 @@ mod list;
 mod names;
 mod opening;
 mod order;
-mod reading;
 mod tables;
 
 pub use opening::{OpenLevels, open_levels};

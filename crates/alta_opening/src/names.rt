@@ -1,8 +1,8 @@
 // The names of live documents.
-ghost use Rattle.std.specs.Prelude.{◌≡◌, ◌≢◌, ◌++◌, ◌∷◌, [], ℕ, All, true, Ok, Err, IfOk, OnOk};
+ghost use Rattle.std.specs.Prelude.{◌≡◌, ◌≢◌, ◌++◌, ◌∷◌, [], ℕ, true, Ok, Err, IfOk, OnOk};
 ghost use Rattle.alta_codec.specs.Rising.{IsRising};
-ghost use Rattle.alta_content.specs.Rows.{IsPlaced, ends_among};
-ghost use Rattle.alta_meaning.specs.Known.{is_taken};
+ghost use Rattle.alta_content.specs.Rows.{AreDocuments, IsPlaced, ends_among};
+ghost use Rattle.alta_meaning.specs.Known.{is_taken, is_taken_by};
 ghost use Rattle.alta_meaning.specs.Opened.{live_in, names_in, table_rows};
 ghost use Rattle.alta_meaning.specs.Names.{AreNames};
 ghost use Rattle.alta_opening.specs.Names.{live_behind, may_join};
@@ -37,34 +37,33 @@ fn is_named(deleted: &[Loc], row: &DocRow, name: &str) -> bool
     row.name.as_str() == name
 }
 
-// Whether a live document of these rows has the name.
-fn is_in_rows(deleted: &[Loc], rows: &[DocRow], name: &str) -> bool
+// Whether the live document with this number, of these rows, has the name.
+fn is_in_rows(deleted: &[Loc], rows: &[DocRow], number: u64, name: &str) -> bool
     requires rising { IsRising deleted.now }
-    requires placed { All IsPlaced rows.now }
-    ensures { result ≡ is_taken name.now (live_in deleted.now rows.now) }
+    requires rows { AreDocuments rows.now }
+    ensures { result ≡ is_taken_by name.now number (live_in deleted.now rows.now) }
 {
-    for row in rows {
-        if is_named(deleted, row, name) {
-            return true;
-        }
+    match rows.binary_search_by(|row| row.number.cmp(&number)) {
+        Ok(index) => is_named(deleted, &rows[index], name),
+        Err(_place) => false,
     }
-    false
 }
 
-// Whether a live document of these levels has the name.
-fn is_in_levels(deleted: &[Loc], levels: &[OpenLevel], name: &str) -> bool
+// Whether the live document with this number, of these levels, has the name.
+fn is_in_levels(deleted: &[Loc], levels: &[OpenLevel], number: u64, name: &str) -> bool
     requires { IsRising deleted.now }
-    ensures { result ≡ is_taken name.now (live_in deleted.now (table_rows levels.now)) }
+    ensures { result ≡ is_taken_by name.now number (live_in deleted.now (table_rows levels.now)) }
 {
     for level in levels {
-        if is_in_rows(deleted, level.documents(), name) {
+        if is_in_rows(deleted, level.documents(), number, name) {
             return true;
         }
     }
     false
 }
 
-// Whether a live document of the levels, or of the rows behind them, has the name. Where one has its hash, all their names are looked at.
+// Whether a live document of the levels, or of the rows behind them, has the name. Where one has its hash, the name of its number alone is
+// looked at, and then those that are kept by their texts.
 fn has_live(
     names: &NameTable,
     deleted: &[Loc],
@@ -73,17 +72,20 @@ fn has_live(
     name: &str,
 ) -> bool
     requires rising { IsRising deleted.now }
-    requires placed { All IsPlaced behind.now }
+    requires behind { AreDocuments behind.now }
     requires names { AreNames names.now (live_behind deleted.now levels.now behind.now) }
     ensures { result ≡ is_taken name.now (live_behind deleted.now levels.now behind.now) }
 {
     match names.likely(name) {
         None => names.other(name).is_some(),
-        Some(_number) => {
-            if is_in_levels(deleted, levels, name) {
+        Some(number) => {
+            if is_in_levels(deleted, levels, number, name) {
                 return true;
             }
-            is_in_rows(deleted, behind, name)
+            if is_in_rows(deleted, behind, number, name) {
+                return true;
+            }
+            names.other(name).is_some()
         }
     }
 }
@@ -98,7 +100,7 @@ fn join(
     row: &DocRow,
 ) -> Result<bool, AllocError>
     requires rising { IsRising deleted.now }
-    requires before { All IsPlaced behind.now }
+    requires before { AreDocuments behind.now }
     requires placed { IsPlaced row.now }
     requires names { AreNames names.old (live_behind deleted.now levels.now behind.now) }
     ensures free { IfOk result (λ joins. joins

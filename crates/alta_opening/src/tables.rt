@@ -6,9 +6,8 @@ ghost use Rattle.alta_meaning.specs.Opened.{tables_at, extent_of};
 ghost use Rattle.alta_opening.specs.Costs.{level_bytes};
 ghost use Rattle.alta_opening.specs.Steps.{Answers, outer};
 
-use crate::reading::read_behind;
 use alta_codec::Extent;
-use alta_disk::{Disk, LoadFault};
+use alta_disk::{Disk, LoadFault, read_behind};
 use alta_table::{LevelFault, OpenLevel, head};
 use std::alloc::Global;
 

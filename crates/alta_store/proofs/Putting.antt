@@ -8,7 +8,7 @@ use Rattle.std.proofs.lemmas.List.{drop-map, map-append}
 use Rattle.std.proofs.lemmas.List.Elements.{All-contains_itself, All-filter, All-map, All-weaker}
 use Rattle.alta_layout.specs.Places.{half_start, other}
 use Rattle.alta_catalog.specs.Knowing.{Follows, Knows as CatalogKnows, KnowsBy, gone_of, levels_of as levels_in, location_of, memory_of, next_of}
-use Rattle.alta_catalog.specs.Replacing.{IsEmptied, IsPrepared, MayReplace, deleted_of, ends_in, level_in, rows_between, stay_from_of, tables_between}
+use Rattle.alta_catalog.specs.Replacing.{IsEmptied, IsLeft, IsPrepared, MayReplace, deleted_of, ends_in, level_in, rows_between, tables_between}
 use Rattle.alta_catalog.specs.Rows.{AreRowsOf, MayBe, documents_left}
 use Rattle.alta_catalog.specs.declared.catalog.Catalog.{Catalog}
 use Rattle.alta_catalog.specs.declared.replacing.PreparedLevels.{PreparedLevels}
@@ -43,10 +43,9 @@ use Rattle.alta_joins.specs.Jobs.{DeadAreGone}
 use Rattle.alta_journal.specs.Journal.{StandsAhead}
 use Rattle.alta_journal.specs.Record.{Record}
 use Rattle.alta_journal.specs.declared.entry.Entry.{Entry}
-use Rattle.alta_memlevel.specs.Added.{Added, HasContent}
+use Rattle.alta_memlevel.specs.Added.{Added, HasContent, LevelView}
 use Rattle.alta_memlevel.specs.Documents.{IsBefore}
 use Rattle.alta_merge.specs.Merging.{Merging}
-use Rattle.alta_machine.specs.declared.document.Document.{Document}
 use Rattle.alta_machine.specs.declared.document.State.{State}
 use Rattle.alta_rewrite.specs.Drafts.{rewrite_places}
 use Rattle.alta_rewrite.specs.Rewrites.{AgreesWith, HaveRows, IsComing, IsRewritten, MayBecome, IsRewrittenOpened, MayRewrite, MayRewriteOpened, levels_to_come, rows_to_come, tables_in}
@@ -336,10 +335,11 @@ module _ (tells : Type 0) (a b : DiskState) (lawful_a : IsLawful tells a) (lawfu
     (rows_done : (table_rows (tables_in done.oldest) ≡ levels.oldest.documents) × (table_rows (tables_in done.newest) ≡ levels.newest.documents))
     (extents_done : done.root.levels.items ≡ map extent_of (tables_in done.oldest) ++ (drop levels.stay_from now.root.levels.items ++ map extent_of (tables_in done.newest)))
     (none_done : levels.oldest.documents ≡ [] → done.oldest ≡ None) (spared : tells → All (IsSame a.content b.content) now.root.levels.items)
-    (same : (c : Catalog) → (s : State) → (n : ℕ) → IsEmptied c now.catalog → CatalogKnows c s → IsPrepared now.catalog (table_rows (level_in done.oldest)) n (table_rows (level_in done.newest)) prepared → MayReplace c done.oldest n done.newest
+    (left : Catalog) (left_is : IsLeft levels.stay_from now.catalog left)
+    (same : (c emptied : Catalog) → (s : State) → (n : ℕ) → IsEmptied c emptied → CatalogKnows c s → IsLeft n emptied left → IsPrepared emptied (table_rows (level_in done.oldest)) n (table_rows (level_in done.newest)) prepared → MayReplace c done.oldest n done.newest
     → CatalogKnows later.catalog s)
-    (levels_are : levels_in later.catalog ≡ tables_between done.oldest (stay_from_of prepared) (levels_in now.catalog) done.newest) (gone_are : gone_of later.catalog ≡ deleted_of prepared)
-    (follows : (root : Root) → root.next_number ≡ next_of now.catalog → root.next_location ≡ location_of now.catalog → HasContent [] (memory_of now.catalog).content → Follows later.catalog root []) where
+    (levels_are : levels_in later.catalog ≡ level_in done.oldest ++ (levels_in left ++ level_in done.newest)) (gone_are : gone_of later.catalog ≡ deleted_of prepared)
+    (follows : (root : Root) → root.next_number ≡ next_of left → root.next_location ≡ location_of left → HasContent [] (memory_of left).content → Follows later.catalog root []) where
   prepared_here : IsPrepared now.catalog (table_rows (level_in done.oldest)) levels.stay_from (table_rows (level_in done.newest)) prepared
   prepared_here =
       subst (λ (rows : List DocRow). IsPrepared now.catalog rows levels.stay_from (table_rows (level_in done.newest)) prepared) (sym (ap table_rows (sym (same_level done.oldest)) ∙ rows_done.0))
@@ -354,15 +354,17 @@ module _ (tells : Type 0) (a b : DiskState) (lawful_a : IsLawful tells a) (lawfu
   }
 
   pub knows_then : (s : State) → Knows before s → Knows later s
-  knows_then s knows = same before.catalog s levels.stay_from may.drained.catalog knows prepared_here replaces
+  knows_then s knows = same before.catalog now.catalog s levels.stay_from may.drained.catalog knows left_is prepared_here replaces
 
   levels_then : levels_of later ≡ tables_between done.oldest levels.stay_from (levels_of before) done.newest
   levels_then =
-      levels_are ∙ ap₂ (λ (n : ℕ) (v : Vec Tables Global). tables_between done.oldest n v.items done.newest) is_prepared.stay_from may.drained.catalog.levels
+      levels_are ∙ ap (λ (ls : List Tables). level_in done.oldest ++ (ls ++ level_in done.newest)) left_is.levels
+      ∙ ap (λ (v : Vec Tables Global). tables_between done.oldest levels.stay_from v.items done.newest) may.drained.catalog.levels
 
   follows_then : Follows later.catalog later.root []
   follows_then =
-      follows later.root (ap (λ (r : Root). r.next_number) root_later ∙ number_done ∙ next_is) (ap (λ (r : Root). r.next_location) root_later ∙ location_done ∙ location_is) may.drained.catalog.empty
+      follows later.root (ap (λ (r : Root). r.next_number) root_later ∙ number_done ∙ next_is ∙ sym left_is.next) (ap (λ (r : Root). r.next_location) root_later ∙ location_done ∙ location_is ∙ sym left_is.location)
+      (subst (λ (m : LevelView). HasContent [] m.content) (sym left_is.memory) may.drained.catalog.empty)
 
   extents_then : map extent_of (levels_of later) ≡ later.root.levels.items
   extents_then =
@@ -420,7 +422,7 @@ module _ (tells : Type 0) (a b : DiskState) (lawful_a : IsLawful tells a) (lawfu
         joining = going.0;
       }
 
-  module _ (knows_by : (c : Catalog) → (s : State) → (n : ℕ) → (olds : List Added) → IsEmptied c now.catalog → CatalogKnows c s → IsPrepared now.catalog (table_rows (level_in done.oldest)) n (table_rows (level_in done.newest)) prepared
+  module _ (knows_by : (c emptied : Catalog) → (s : State) → (n : ℕ) → (olds : List Added) → IsEmptied c emptied → CatalogKnows c s → IsLeft n emptied left → IsPrepared emptied (table_rows (level_in done.oldest)) n (table_rows (level_in done.newest)) prepared
       → MayReplace c done.oldest n done.newest → AreRowsOf (table_rows (levels_in later.catalog)) olds → KnowsBy later.catalog olds (record { next = s.next; documents = documents_left (deleted_of prepared) olds })) where
     keeps_then : (told : tells) (o coming : Opened) → IsOpened o a.content → IsRewrittenOpened a.limit o coming levels ends next location done b.content → Keeps later coming
     unfolding state_with
@@ -446,7 +448,7 @@ module _ (tells : Type 0) (a b : DiskState) (lawful_a : IsLawful tells a) (lawfu
               let olds = here.starts.olds in
               let rows_are : AreRowsOf (table_rows (levels_in later.catalog)) olds = subst (λ (ls : List Tables). AreRowsOf (table_rows ls) olds) (sym levels_come) here.starts.rows in
               let knows : KnowsBy later.catalog olds (record { next = some.0.next; documents = documents_left (deleted_of prepared) olds }) =
-              knows_by before.catalog some.0 levels.stay_from olds may.drained.catalog known prepared_here replaces rows_are in
+              knows_by before.catalog now.catalog some.0 levels.stay_from olds may.drained.catalog known left_is prepared_here replaces rows_are in
               let next_comes : some.0.next ≡ coming.root.next_number =
               sym known.notes.next ∙ sym may.drained.catalog.next ∙ sym next_is ∙ sym number_done ∙ ap (λ (r : Root). r.next_number) become.root_is in
               let state_is : s ≡ record { next = some.0.next; documents = documents_left (deleted_of prepared) olds } =

@@ -304,8 +304,8 @@ impl Store {
         }
     }
 
-    // Switches the root to other levels. The newest documents were taken out, and the live ones stand in these levels. All memory is
-    // taken before the first write.
+    // Switches the root to other levels. The newest documents were taken out, and the live ones stand in these levels. The tables of the
+    // levels that do not stay are dropped before the new ones are spelled. All memory is taken before the first write.
     fn put<D: Disk>(&mut self, disk: &mut D, levels: NextLevels) -> Result<(), StoreFault>
         requires may { (before : Store) × MayPut D.tells (D.state disk.old) before self.old levels }
         requires limit { HEAD_BYTES ≤ (D.state disk.old).limit }

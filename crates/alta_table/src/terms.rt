@@ -25,7 +25,7 @@ pub struct HeldTerms {
 }
 
 // The marks of so many rows, which are all of the bytes, and how much of the room no stream or summary takes.
-// A row takes six bytes at least, so no false count takes more memory than the part.
+// A row takes six bytes at least, so no false count takes more memory than the part. The terms beside the marks keep no room to grow.
 fn marks_of(alloc: Global, count: u64, room: u64, bytes: &[u8]) -> Result<(Marks, u64), ReadFault>
     ensures gives { Gives (λ x. ((rows_found (read (terms_format count room) bytes.now), x.1), [])) result
         (read (terms_format count room) bytes.now) }
@@ -44,6 +44,7 @@ fn marks_of(alloc: Global, count: u64, room: u64, bytes: &[u8]) -> Result<(Marks
     if !walk.rest.is_empty() {
         return Err(ReadFault::Broken(walk.rest.len()));
     }
+    marks.heads.shrink_to_fit();
     Ok((marks, walk.left))
 }
 

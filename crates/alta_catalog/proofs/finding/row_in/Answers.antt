@@ -4,7 +4,7 @@ use Rattle.std.specs.Ordering.{nat_cmp}
 use Rattle.std.proofs.lemmas.Fn.{always_returns_same}
 use Rattle.std.proofs.lemmas.List.Elements.{Contains-get_or}
 use Rattle.alta_content.specs.Rows.{start}
-use Rattle.alta_catalog.proofs.FindingLaws.{found_here, none_here}
+use Rattle.alta_meaning.proofs.NumberLaws.{found_here, none_here}
 use Rattle.alta_catalog.proofs.finding.row_in.Goals as goal
 
 pub returns-in-Ok-clause-some : goal.returns-in-Ok-clause-some

@@ -19,19 +19,14 @@ spells_back : (bytes : List ℕ) (entry : Entry) → KeepsRules entry → IsType
 spells_back bytes entry keeps typed made = made ∙ ap body_of (sym (read_back bytes entry keeps typed made))
 
 -- all was written
-made : (c : goal.In_ok-push) → c.push.new.self.items ≡ body_of (entry_of c.args.entry.now)
+pub invariant_of-result : goal.invariant_of-result
 unfolding four_bytes
-made c = grind (arith, common_steps)
-
-pub of_bytes-requires-clause-sound : goal.of_bytes-requires-clause-sound
-of_bytes-requires-clause-sound c = sound_back _ (entry_of c.args.entry.now) c.requires c.payload_len-payload.ensures.typed (made c)
-
-pub of_bytes-requires-clause-spells : goal.of_bytes-requires-clause-spells
-of_bytes-requires-clause-spells c = spells_back _ (entry_of c.args.entry.now) c.requires c.payload_len-payload.ensures.typed (made c)
+invariant_of-result c =
+    let made : c.push.new.self.items ≡ body_of (entry_of c.args.entry.now) = grind (arith, common_steps) in
+    (sound_back _ (entry_of c.args.entry.now) c.requires c.payload_len-payload.ensures.typed made, spells_back _ (entry_of c.args.entry.now) c.requires c.payload_len-payload.ensures.typed made)
 
 pub returns : goal.returns
 unfolding four_bytes
 returns c =
     let made : c.push.new.self.items ≡ body_of (entry_of c.args.entry.now) = grind (arith, common_steps) in
-    let back : entry_of_body c.push.new.self.items ≡ (entry_of c.args.entry.now) = read_back _ (entry_of c.args.entry.now) c.requires c.payload_len-payload.ensures.typed made in
-    c.of_bytes.ensures ∙ rw (back, made) refl
+    rw (read_back _ (entry_of c.args.entry.now) c.requires c.payload_len-payload.ensures.typed made, made) refl

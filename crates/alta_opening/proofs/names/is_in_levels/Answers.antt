@@ -1,21 +1,20 @@
 use Rattle.std.proofs.Common.{◌≡◌, ◌∙◌, ◌+◌, ◌++◌, Bool, List, drop, refl, sym, ap, subst}
-use Rattle.std.specs.Prelude.{◌||◌, All}
+use Rattle.std.specs.Prelude.{◌||◌}
 use Rattle.std.proofs.lemmas.List.{drop_all}
-use Rattle.alta_content.specs.Rows.{IsPlaced, start}
+use Rattle.alta_content.specs.Rows.{AreDocuments}
 use Rattle.alta_content.specs.declared.document.DocRow.{DocRow}
-use Rattle.alta_meaning.specs.Known.{is_taken}
+use Rattle.alta_meaning.specs.Known.{is_taken_by}
 use Rattle.alta_meaning.specs.Opened.{live_in, table_rows}
 use Rattle.alta_opening.proofs.EndLaws.{rows_next}
-use Rattle.alta_opening.proofs.Naming.{taken_split}
-use Rattle.alta_opening.proofs.RowLaws.{all_placed}
+use Rattle.alta_opening.proofs.Numbered.{split_by}
 use Rattle.alta_table.specs.Tables.{Tables}
 use Rattle.alta_opening.proofs.names.is_in_levels.Goals as goal
 
 pub loop-level-init : goal.loop-level-init
 loop-level-init c = refl
 
-pub is_in_rows-requires-clause-placed : goal.is_in_rows-requires-clause-placed
-is_in_rows-requires-clause-placed c = subst (All IsPlaced) (sym c.documents.ensures.rows) (all_placed start _ c.documents.ensures.kept.documents_stand)
+pub is_in_rows-requires-clause-rows : goal.is_in_rows-requires-clause-rows
+is_in_rows-requires-clause-rows c = subst AreDocuments (sym c.documents.ensures.rows) c.documents.ensures.kept.documents_stand
 
 pub returns-then-is_in_rows : goal.returns-then-is_in_rows
 returns-then-is_in_rows c =
@@ -24,9 +23,9 @@ returns-then-is_in_rows c =
     let later = table_rows (drop (i + 1) levels) in
     let next : table_rows (drop i levels) ≡ c.documents.result.now ++ later =
     rows_next levels i c.level-item.result c.loop-level-test.true c.level-item.is ∙ ap (λ (rows : List DocRow). rows ++ later) (sym c.documents.ensures.rows) in
-    sym (c.loop-level.invariant ∙ ap (λ (rows : List DocRow). is_taken c.args.name.now (live_in c.args.deleted.now rows)) next
-    ∙ taken_split c.args.deleted.now c.args.name.now c.documents.result.now later
-    ∙ ap (λ (b : Bool). b || is_taken c.args.name.now (live_in c.args.deleted.now later)) (sym c.is_in_rows.ensures ∙ c.if-is_in_rows.true))
+    sym (c.loop-level.invariant ∙ ap (λ (rows : List DocRow). is_taken_by c.args.name.now c.args.number (live_in c.args.deleted.now rows)) next
+    ∙ split_by c.args.deleted.now c.args.name.now c.args.number c.documents.result.now later
+    ∙ ap (λ (b : Bool). b || is_taken_by c.args.name.now c.args.number (live_in c.args.deleted.now later)) (sym c.is_in_rows.ensures ∙ c.if-is_in_rows.true))
 
 pub loop-level-preserved : goal.loop-level-preserved
 loop-level-preserved c =
@@ -35,11 +34,11 @@ loop-level-preserved c =
     let later = table_rows (drop (i + 1) levels) in
     let next : table_rows (drop i levels) ≡ c.documents.result.now ++ later =
     rows_next levels i c.level-item.result c.loop-level-test.true c.level-item.is ∙ ap (λ (rows : List DocRow). rows ++ later) (sym c.documents.ensures.rows) in
-    c.loop-level.invariant ∙ ap (λ (rows : List DocRow). is_taken c.args.name.now (live_in c.args.deleted.now rows)) next
-    ∙ taken_split c.args.deleted.now c.args.name.now c.documents.result.now later
-    ∙ ap (λ (b : Bool). b || is_taken c.args.name.now (live_in c.args.deleted.now later)) (sym c.is_in_rows.ensures ∙ c.if-is_in_rows.false)
+    c.loop-level.invariant ∙ ap (λ (rows : List DocRow). is_taken_by c.args.name.now c.args.number (live_in c.args.deleted.now rows)) next
+    ∙ split_by c.args.deleted.now c.args.name.now c.args.number c.documents.result.now later
+    ∙ ap (λ (b : Bool). b || is_taken_by c.args.name.now c.args.number (live_in c.args.deleted.now later)) (sym c.is_in_rows.ensures ∙ c.if-is_in_rows.false)
 
 pub returns : goal.returns
 returns c =
     sym (c.loop-level.invariant
-    ∙ ap (λ (levels : List Tables). is_taken c.args.name.now (live_in c.args.deleted.now (table_rows levels))) (drop_all c.loop-level.level-index c.args.levels.now c.loop-level-test.false))
+    ∙ ap (λ (levels : List Tables). is_taken_by c.args.name.now c.args.number (live_in c.args.deleted.now (table_rows levels))) (drop_all c.loop-level.level-index c.args.levels.now c.loop-level-test.false))

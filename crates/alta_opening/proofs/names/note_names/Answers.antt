@@ -1,6 +1,5 @@
 use Rattle.std.proofs.Common.{◌≡◌, ◌<◌, ◌++◌, ◌∷◌, [], length, take, get_or, List, sym, ap, subst, ◌∙◌}
 use Rattle.std.proofs.lemmas.List.{append-nil}
-use Rattle.std.proofs.lemmas.List.Elements.{All-take}
 use Rattle.alta_content.specs.Rows.{AreDocuments, IsPlaced, start}
 use Rattle.alta_content.specs.declared.document.DocRow.{DocRow}
 use Rattle.alta_meaning.specs.Known.{Named}
@@ -8,6 +7,7 @@ use Rattle.alta_meaning.specs.Opened.{live_in, names_from, table_rows}
 use Rattle.alta_meaning.specs.Names.{AreNames}
 use Rattle.alta_opening.specs.Names.{live_behind, may_join}
 use Rattle.alta_opening.proofs.Naming.{passed_row}
+use Rattle.alta_opening.proofs.Numbered.{first_stand}
 use Rattle.alta_opening.proofs.RowLaws.{all_placed}
 use Rattle.alta_opening.proofs.names.note_names.Goals as goal
 
@@ -23,7 +23,7 @@ pub join-requires-clause-before : goal.join-requires-clause-before
 join-requires-clause-before c =
     let rows = c.documents-rows.result.now in
     let are : AreDocuments rows = subst AreDocuments (sym c.documents-rows.ensures.rows) c.documents-rows.ensures.kept.documents_stand in
-    All-take IsPlaced c.loop-i.i rows (all_placed start rows are)
+    first_stand start rows are c.loop-i.i
 
 pub join-requires-clause-placed : goal.join-requires-clause-placed
 join-requires-clause-placed c =

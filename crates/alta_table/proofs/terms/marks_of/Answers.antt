@@ -2,7 +2,7 @@ use Rattle.std.proofs.Common.{rules, ◌≡◌, ◌<◌, ◌++◌, ◌∷◌, �
 use Rattle.alta_format.specs.Format.{read}
 use Rattle.alta_format.proofs.EntryLaws.{stops, closed, left_over}
 use Rattle.alta_table.specs.declared.term.TermRow.{TermRow}
-use Rattle.alta_table.specs.Marks.{IsBehind, Total}
+use Rattle.alta_table.specs.Marks.{AreMarks, IsBehind, Total, rows_found}
 use Rattle.alta_table.specs.Terms.{Behind, terms_format, terms_table}
 use Rattle.alta_table.specs.Walks.{behind_of, row_of}
 use Rattle.alta_table.proofs.WalkLaws.{IsRest, all_found, at_start, found, marks_end, marks_on, more_read, none_marked, rest_all, rest_on}
@@ -69,6 +69,7 @@ returns-clause-marked c =
     let is : total ≡ found (take l.row l.invariant.rows) l.walk.left =
     closed terms_table c.args.count l.row (behind_of l.walk) (take l.row l.invariant.rows) l.walk.rest.now total c.loop-row-test.false none l.invariant.stands.reads in
     record {
-      are = marks_end total c.args.count c.args.room c.args.bytes.now l.invariant.rows l.row l.walk.left l.marks.heads.items l.marks.marks.items l.invariant.many l.invariant.stands.within is l.invariant.are;
+      are = subst (λ (heads : List ℕ). AreMarks total c.args.count c.args.room c.args.bytes.now (rows_found total) heads l.marks.marks.items) (sym c.shrink_to_fit.ensures.items)
+          (marks_end total c.args.count c.args.room c.args.bytes.now l.invariant.rows l.row l.walk.left l.marks.heads.items l.marks.marks.items l.invariant.many l.invariant.stands.within is l.invariant.are);
       many = omega (arith, l.invariant.many, l.invariant.upto, c.loop-row-test.false);
     }
