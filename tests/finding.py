@@ -6,6 +6,7 @@ usage: tests/finding.py [--program PATH]
 Without --program the tests of the real program are left out, and that is said.
 """
 
+import argparse
 import contextlib
 import io
 import json
@@ -29,7 +30,7 @@ import fake
 from buncocedar import Index, InUse
 from buncocedar.imports.stampfile import has_none_in_parts, stamps_path
 from buncocedar.imports.stamps import Stamp, Stamps, part_name
-from buncocedar.tools import dump, hints, reading, shell, status
+from buncocedar.tools import dump, find, hints, reading, shell, status
 from buncocedar.tools.documents import Places
 from buncocedar.tools.rows import whole_documents
 from buncocedar.web.questions import Questions
@@ -97,6 +98,12 @@ class Ends(Case):
             # Before the script begins the interrupt is Python's own.
             self.assertNotIn(os.path.join("client", "buncocedar"), said)
             self.assertIn(process.returncode, (0, 130, -signal.SIGINT, 1), said)
+
+    def test_an_interrupt_while_the_words_are_read(self):
+        # Here argparse fails as it clears up, and hides the interrupt behind an error of its own.
+        with mock.patch.object(argparse.ArgumentParser, "format_usage", side_effect=KeyboardInterrupt):
+            with self.assertRaises(KeyboardInterrupt):
+                find.parsed(find.parser(), [self.path, "fox"])
 
     def test_outputs_that_are_closed(self):
         for words in (["find", self.path, "fox"], ["shell", self.path], ["dump", self.path], ["--help"]):

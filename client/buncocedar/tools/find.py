@@ -102,9 +102,19 @@ def is_index(path):
     return OPEN in (head[:1] + head[SLOT:])
 
 
+def read_words(words, arguments):
+    """The options as argparse reads them. An interrupt meanwhile stays one: what argparse itself then fails with would hide it."""
+    try:
+        return words.parse_intermixed_args(arguments)
+    except AttributeError as error:
+        if isinstance(error.__context__, KeyboardInterrupt):
+            raise KeyboardInterrupt from None
+        raise
+
+
 def parsed(words, arguments):
     """The options, with the index that the variable names where none is given, and the query as one text, None without one."""
-    options = words.parse_intermixed_args(arguments)
+    options = read_words(words, arguments)
     usual = os.environ.get(VARIABLE)
     if usual and not (options.index and is_index(options.index)):
         options.query = [options.index, *options.query] if options.index is not None else []
